@@ -1,0 +1,169 @@
+-- "Bus and actions": what each of the ten kinds of action does. An action is about one node i: it makes a report, the bus goes to a phase, and that node's cell changes;
+-- beyond that only a Start clears the misled marks and a reset the won marks. So each action is a function of the few values that it looks at.
+use mathlib.Core.Bool.{Bool, true, false, cond, _&&_, _||_, not}
+use Prim.Native.Nat.{ℕ, zero, suc}
+use lib.Dec.{eqb, ltb}
+use Rattle.charts.specs.declared.Mode.{Mode}
+use Rattle.charts.specs.declared.Mode.the-variants.{Rest, Sending, Answering, Acking, Spurious}
+use Rattle.charts.specs.declared.Signal.{Signal}
+use Rattle.charts.specs.declared.Signal.the-variants.{Gap}
+use Rattle.charts.specs.declared.Report.{Report}
+use Rattle.charts.specs.declared.Report.the-variants as R
+use Rattle.charts.specs.declared.Packet.{Packet}
+use Rattle.charts.specs.declared.Buffer.{Buffer}
+use Rattle.charts.specs.declared.Buffer.the-variants.{Empty, Full}
+use Rattle.charts.specs.declared.Phase.{Phase}
+use Rattle.charts.specs.declared.Phase.the-variants.{Idle, Busy, Delivering, Granting, Gapping}
+use Rattle.charts.specs.declared.Cell.{Cell}
+use Rattle.charts.specs.declared.Heard.{Heard}
+use Rattle.charts.specs.declared.Output.{Output}
+use Rattle.charts.specs.declared.Output.the-variants as O
+use Rattle.charts.specs.declared.Way.{Way}
+use Rattle.charts.specs.declared.Arrival.{Arrival}
+use Rattle.charts.specs.declared.Arrival.the-variants as A
+use Rattle.charts.specs.declared.Clears.{Clears}
+use Rattle.charts.specs.declared.Clears.the-variants as C
+use Rattle.charts.specs.declared.Move.{Move}
+use Rattle.charts.specs.declared.Move.the-variants.{Request, Arbitrate, Respond, Clock, Carry, Grant, GapNext, Reset}
+use Rattle.charts.specs.Modes.{isRest, isHolding, isAnswering, isTold, isOwed}
+use Rattle.charts.specs.Signals.{isStart, isEnd}
+use Rattle.charts.specs.Reception.{hears}
+use Rattle.charts.specs.Outputs.{output}
+use Rattle.charts.specs.Arrivals.{arrives}
+use Rattle.charts.specs.State.{setMode, setBuffer, setSending, setWon, setPending, setHolder, setMisled, upd, some, others, lowest, isIdle, isBusy, isGranting, isEmpty}
+
+-- what an action comes to: it is not open; or its report, the bus's next phase, its node's next cell and the marks cleared
+pub data Outcome : Type 0 where
+  closed : Outcome
+  does : Report → Phase → Cell → Clears → Outcome
+
+abbrev pub quietly : Phase → Cell → Outcome
+quietly p c = does R.Silent p c C.Nothing
+
+abbrev pub when : Bool → Outcome → Outcome
+when true o = o
+when false o = closed
+
+-- the node starts to send a packet
+abbrev pub starts : Packet → Cell → Cell
+starts p c = setMode (Sending 0) (setSending p c)
+
+-- 1. request: "in Rest with an empty buffer it fills the buffer; in Holding it becomes the packet being sent, → Sending"
+unfoldable pub request : Phase → Cell → Packet → Outcome
+request ph c p =
+    cond (isRest (c .mode) && isEmpty (c .buffer)) (quietly ph (setBuffer (Full p) c))
+    (when (isHolding (c .mode)) (quietly ph (starts p c)))
+
+-- 2. arbitrate: "in Rest, buffer full. Bus Idle and not marked won: report won, mark won and holder, bus Busy, packet leaves the buffer, → Sending.
+-- Otherwise report lost; nothing changes"
+abbrev pub arbitrateWith : Phase → ℕ → Cell → Buffer → Outcome
+arbitrateWith ph i c Empty = closed
+arbitrateWith ph i c (Full p) =
+    when (isRest (c .mode)) (cond (isIdle ph && not (c .won))
+    (does (R.Won i) Busy (setBuffer Empty (setWon true (setHolder true (starts p c)))) C.Nothing)
+    (does (R.Lost i) ph c C.Nothing))
+
+unfoldable pub arbitrate : Phase → ℕ → Cell → Outcome
+arbitrate ph i c = arbitrateWith ph i c (c .buffer)
+
+-- 3. respond: "in Answering → Acking"
+unfoldable pub respond : Phase → Cell → ℕ → Bool → Outcome
+respond ph c a hold = when (isAnswering (c .mode)) (quietly ph (setMode (Acking 0 a hold) c))
+
+-- "every other node, lowest first": the first receiver of node i's signals, and the one after j
+abbrev pub firstOther : ℕ → ℕ
+firstOther i = cond (eqb i 0) 1 0
+
+abbrev pub nextOther : ℕ → ℕ → ℕ
+nextOther i j = cond (eqb (suc j) i) (suc (suc j)) (suc j)
+
+-- 4. clock: "bus Busy, node a holder, and either it is Spurious, or it is the only holder and in Sending, Answering, Acking or Holding".
+-- "Spurious: its End reaches nobody; it goes to Rest and stops being holder; no holder left: bus Gapping from 0."
+-- "A signal put out makes the bus Delivering to every other node, lowest first. Start clears the misled marks. End ends the holding."
+abbrev pub clockWith : ℕ → ℕ → Cell → (ℕ → Bool) → Output → Outcome
+clockWith n i c hs O.Nothing = closed
+clockWith n i c hs O.Frees = when (c .holder) (quietly (cond (others hs i n) Busy (Gapping 0)) (setMode Rest (setHolder false c)))
+clockWith n i c hs (O.Puts s m r) =
+    when (c .holder && not (others hs i n))
+    (does r (Delivering i s (firstOther i)) (setMode m (setHolder (not (isEnd s)) c)) (cond (isStart s) C.Misled C.Nothing))
+
+unfoldable pub clock : ℕ → Phase → ℕ → Cell → (ℕ → Bool) → Outcome
+clock n ph i c hs = when (isBusy ph) (clockWith n i c hs (output i (c .mode) (c .sending)))
+
+-- 5, 6, 7. "After the last receiver: not End: Busy. End: Granting if a node is pending, else Gapping from 0."
+abbrev pub onward : ℕ → ℕ → Signal → ℕ → (ℕ → Bool) → Phase
+onward n i s j ps =
+    cond (ltb (nextOther i j) n) (Delivering i s (nextOther i j)) (cond (isEnd s) (cond (some ps n) Granting (Gapping 0)) Busy)
+
+-- the receiver's cell after what it heard: it may be entered as pending, or marked misled
+abbrev pub hearing : Cell → Heard → Bool → Cell
+hearing c x misleads = setMode (x .mode) (setPending (c .pending || x .pends) (setMisled (c .misled || misleads) c))
+
+abbrev pub delivers : ℕ → ℕ → Signal → ℕ → (ℕ → Bool) → Report → Cell → Outcome
+delivers n i s j ps r c = does r (onward n i s j (upd ps j (c .pending))) c C.Nothing
+
+abbrev pub deliverWith : ℕ → ℕ → Signal → ℕ → Cell → (ℕ → Bool) → Arrival → Outcome
+deliverWith n i s j c ps A.Closed = closed
+deliverWith n i s j c ps A.Lost = delivers n i s j ps R.Silent c
+deliverWith n i s j c ps (A.Hears t misleads) = delivers n i s j ps (hears j (c .mode) t .report) (hearing c (hears j (c .mode) t) misleads)
+
+-- "bus Delivering, as for 6 and 7"
+unfoldable pub carry : ℕ → Phase → Cell → (ℕ → Bool) → Way → Outcome
+carry n Idle c ps w = closed
+carry n Busy c ps w = closed
+carry n (Delivering i s j) c ps w = deliverWith n i s j c ps (arrives w (c .misled) s)
+carry n Granting c ps w = closed
+carry n (Gapping j) c ps w = closed
+
+-- 8. grant: "bus Granting. The lowest pending node, if any, stops being pending and becomes holder: Told → Answering, Owed → Spurious, another mode kept.
+-- If none is pending after that: Busy."
+abbrev pub granted : Mode → Mode
+granted m = cond (isTold m) Answering (cond (isOwed m) Spurious m)
+
+unfoldable pub grant : ℕ → Phase → ℕ → Cell → (ℕ → Bool) → Outcome
+grant n ph i c ps =
+    when (isGranting ph) (cond (some ps n)
+    (quietly (cond (others ps i n) Granting Busy) (setMode (granted (c .mode)) (setPending false (setHolder true c))))
+    (quietly Busy c))
+
+-- 9. gap: "bus Gapping. The next node gets Gap; after node n−1 the bus is Idle."
+unfoldable pub gap : ℕ → Phase → Cell → Outcome
+gap n Idle c = closed
+gap n Busy c = closed
+gap n (Delivering i s j) c = closed
+gap n Granting c = closed
+gap n (Gapping j) c =
+    does (hears j (c .mode) Gap .report) (cond (ltb (suc j) n) (Gapping (suc j)) Idle) (setMode (hears j (c .mode) Gap .mode) c) C.Nothing
+
+-- 10. reset: "bus Idle with some won mark; clears these marks"
+unfoldable pub reset : ℕ → Phase → Cell → (ℕ → Bool) → Outcome
+reset n ph c ws = when (isIdle ph && some ws n) (does R.Silent ph c C.Won)
+
+-- the node that an action is about: the one that it names; the next receiver; the lowest pending node; the next node to get Gap. (A reset is about none: node 0's cell stays.)
+abbrev pub nextOf : Phase → ℕ
+nextOf Idle = 0
+nextOf Busy = 0
+nextOf (Delivering i s j) = j
+nextOf Granting = 0
+nextOf (Gapping j) = j
+
+abbrev pub target : ℕ → Phase → (ℕ → Bool) → Move → ℕ
+target n ph ps (Request i p) = i
+target n ph ps (Arbitrate i) = i
+target n ph ps (Respond i a hold) = i
+target n ph ps (Clock i) = i
+target n ph ps (Carry w) = nextOf ph
+target n ph ps Grant = lowest ps n 0
+target n ph ps GapNext = nextOf ph
+target n ph ps Reset = 0
+
+-- the outcome of an action about node i, whose cell is c; ws, ps and hs are the won, pending and holder marks of all nodes
+unfoldable pub outcome : ℕ → Phase → ℕ → Cell → (ℕ → Bool) → (ℕ → Bool) → (ℕ → Bool) → Move → Outcome
+outcome n ph i c ws ps hs (Request j p) = request ph c p
+outcome n ph i c ws ps hs (Arbitrate j) = arbitrate ph i c
+outcome n ph i c ws ps hs (Respond j a hold) = respond ph c a hold
+outcome n ph i c ws ps hs (Clock j) = clock n ph i c hs
+outcome n ph i c ws ps hs (Carry w) = carry n ph c ps w
+outcome n ph i c ws ps hs Grant = grant n ph i c ps
+outcome n ph i c ws ps hs GapNext = gap n ph c
+outcome n ph i c ws ps hs Reset = reset n ph c ws

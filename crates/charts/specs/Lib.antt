@@ -1,0 +1,14 @@
+pub mod Numbers
+pub mod Modes
+pub mod Signals
+pub mod Reception
+pub mod Outputs
+pub mod Arrivals
+pub mod State
+pub mod Actions
+pub mod Records
+pub mod Valid
+pub mod Step
+pub mod View
+pub mod Demand
+pub mod Stretch

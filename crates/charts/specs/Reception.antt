@@ -1,0 +1,85 @@
+-- "What a node does with a signal": the reception chart, 23 modes (AckEnd, TailOwn and TailAll count as two each) by 14 classes of signals.
+use mathlib.Core.Bool.{Bool, true, false, cond}
+use Prim.Native.Nat.{ℕ}
+use lib.Dec.{eqb}
+use Rattle.charts.specs.declared.Head.{Head}
+use Rattle.charts.specs.declared.Seen.the-variants as Sn
+use Rattle.charts.specs.declared.Datum.{Datum}
+use Rattle.charts.specs.declared.Datum.the-variants as D
+use Rattle.charts.specs.declared.Mode.{Mode}
+use Rattle.charts.specs.declared.Mode.the-variants.{Rest, AwaitAck, AckBody, AckEnd, Opened, Addressed, HeadOwn, HeadAll, BodyOwn, BodyAll, TailOwn, TailAll, Wait, Owed, Sending, Told, Answering, Acking, Holding, Spurious}
+use Rattle.charts.specs.declared.Signal.{Signal}
+use Rattle.charts.specs.declared.Signal.the-variants.{Start, End, Prefix, Gap, Dhead, Dest, Header, Data, Ack}
+use Rattle.charts.specs.declared.Report.{Report}
+use Rattle.charts.specs.declared.Report.the-variants.{Silent, Won, Lost, Sent, Acked, Miss, Good, Dcrc, Broad}
+use Rattle.charts.specs.declared.Heard.{Heard}
+use Rattle.charts.specs.Signals as S
+use Rattle.charts.specs.Signals.{classOf, isLine, closes, headOf, datumOf, ackOf}
+
+-- the node goes to a mode with a report; without one
+abbrev pub tells : Mode → Report → Heard
+tells m r = record { mode = m; report = r; pends = false }
+
+abbrev pub goes : Mode → Heard
+goes m = tells m Silent
+
+-- Gap → Rest with the first report, else → Wait with the second
+abbrev pub falls : Report → Report → ℕ → Heard
+falls r q c = cond (eqb c S.gap) (tells Rest r) (tells Wait q)
+
+-- "report good h d, or dcrc h for bad data"
+abbrev pub toldOf : ℕ → Head → Datum → Report
+toldOf me h (D.Good d) = Good me h d
+toldOf me h D.Bad = Dcrc me h
+
+-- "report broad h d if the data were good, else nothing"
+abbrev pub broadOf : ℕ → Head → Datum → Report
+broadOf me h (D.Good d) = Broad me h d
+broadOf me h D.Bad = Silent
+
+-- what node `me` in a mode does with the signal s, which it meets as one of class c
+abbrev pub answer : ℕ → Mode → ℕ → Signal → Heard
+-- Rest (Link0): Start → Opened; else stay
+answer me Rest c s = cond (eqb c S.start) (goes Opened) (goes Rest)
+-- AwaitAck (3): Prefix stay; Start → AckBody; Gap: report miss, Rest; else miss, Wait
+answer me AwaitAck c s = cond (eqb c S.prefix) (goes AwaitAck) (cond (eqb c S.start) (goes AckBody) (falls (Miss me) (Miss me) c))
+-- AckBody (3RA): Gap: miss, Rest; another line signal: miss, Wait; else → AckEnd, remembering a if it was a good Ack
+answer me AckBody c s =
+    cond (eqb c S.gap) (tells Rest (Miss me)) (cond (isLine c) (tells Wait (Miss me))
+    (cond (eqb c S.ackGood) (goes (AckEnd (Sn.Ack (ackOf s)))) (goes (AckEnd Sn.Nothing))))
+-- AckEnd (3RE): End or Prefix after a good Ack: report ack a, Wait; Gap: miss, Rest; else miss, Wait
+answer me (AckEnd (Sn.Ack a)) c s = cond (closes c) (tells Wait (Acked me a)) (falls (Miss me) (Miss me) c)
+answer me (AckEnd Sn.Nothing) c s = falls (Miss me) (Miss me) c
+-- Opened (4): Gap → Rest; another line signal → Wait; else → Addressed
+answer me Opened c s = cond (eqb c S.gap) (goes Rest) (cond (isLine c) (goes Wait) (goes Addressed))
+-- Addressed (4DH): Dest of itself → HeadOwn, and the node is entered as pending on the bus; Dest 63 → HeadAll; Gap → Rest; else Wait
+answer me Addressed c s =
+    cond (eqb c S.destOwn) (record { mode = HeadOwn; report = Silent; pends = true })
+    (cond (eqb c S.destAll) (goes HeadAll) (falls Silent Silent c))
+-- HeadOwn / HeadAll (4RH): good Header → BodyOwn / BodyAll; else Owed / Wait. HeadAll on Gap → Rest
+answer me HeadOwn c s = cond (eqb c S.headerGood) (goes (BodyOwn (headOf s))) (goes Owed)
+answer me HeadAll c s = cond (eqb c S.headerGood) (goes (BodyAll (headOf s))) (falls Silent Silent c)
+-- BodyOwn / BodyAll (4RD): Data, good or bad → TailOwn / TailAll; else Owed / Wait. BodyAll on Gap → Rest
+answer me (BodyOwn h) c s =
+    cond (eqb c S.dataGood) (goes (TailOwn h (D.Good (datumOf s)))) (cond (eqb c S.dataBad) (goes (TailOwn h D.Bad)) (goes Owed))
+answer me (BodyAll h) c s =
+    cond (eqb c S.dataGood) (goes (TailAll h (D.Good (datumOf s)))) (cond (eqb c S.dataBad) (goes (TailAll h D.Bad)) (falls Silent Silent c))
+-- TailOwn: End or Prefix: report good h d, or dcrc h for bad data, and go to Told; else Owed
+answer me (TailOwn h d) c s = cond (closes c) (tells Told (toldOf me h d)) (goes Owed)
+-- TailAll: End or Prefix: report broad h d if the data were good, else nothing, and go to Rest; Gap → Rest; else Wait
+answer me (TailAll h d) c s = cond (closes c) (tells Rest (broadOf me h d)) (falls Silent Silent c)
+-- Wait (WSA): Gap → Rest; else stay
+answer me Wait c s = falls Silent Silent c
+-- Owed (WSA with a grant to come) stays
+answer me Owed c s = goes Owed
+-- Sending (2), Told (4DRec), Answering (5), Acking (6), Holding (7), Spurious stay on every signal
+answer me (Sending k) c s = goes (Sending k)
+answer me Told c s = goes Told
+answer me Answering c s = goes Answering
+answer me (Acking k a b) c s = goes (Acking k a b)
+answer me Holding c s = goes Holding
+answer me Spurious c s = goes Spurious
+
+-- what node `me` in a mode does with a signal
+unfoldable pub hears : ℕ → Mode → Signal → Heard
+hears me m s = answer me m (classOf me s) s

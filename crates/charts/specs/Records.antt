@@ -1,0 +1,73 @@
+-- An action record looked at by the numbers 2 to 6, in that order.
+use mathlib.Core.Bool.{Bool, cond, _&&_, _||_, not}
+use Prim.Native.Nat.{ℕ}
+use lib.Dec.{eqb, ltb, leb}
+use Rattle.charts.specs.declared.Packet.{Packet}
+use Rattle.charts.specs.declared.Way.the-variants.{Pass, Lose, Change}
+use Rattle.charts.specs.declared.Move.{Move}
+use Rattle.charts.specs.declared.Move.the-variants.{Request, Arbitrate, Respond, Clock, Carry, Grant, GapNext, Reset}
+use Rattle.charts.specs.declared.Action.{Action}
+use Rattle.charts.specs.declared.Decoded.{Decoded}
+use Rattle.charts.specs.declared.Decoded.the-variants.{Refused, Accepted}
+use Rattle.charts.specs.Numbers as N
+use Rattle.charts.specs.Signals.{everybody}
+
+-- "kind not 1–10" is refused
+abbrev pub isKind : ℕ → Bool
+isKind k = ltb 0 k && ltb k 11
+
+-- the fields that each kind names: node (1 to 4), address (1, 7), acknowledgement and hold (3), header and data (1)
+abbrev pub namesNode : ℕ → Bool
+namesNode k = ltb k 5
+
+abbrev pub namesAddress : ℕ → Bool
+namesAddress k = eqb k 1 || eqb k 7
+
+abbrev pub namesAnswer : ℕ → Bool
+namesAnswer k = eqb k 3
+
+abbrev pub namesPacket : ℕ → Bool
+namesPacket k = eqb k 1
+
+-- "Fields that a kind doesn't name are 0"
+abbrev pub zeroUnless : Bool → ℕ → Bool
+zeroUnless named x = named || eqb x 0
+
+-- no "field that the kind doesn't name, or one of the record's three zeros, is not 0"
+unfoldable pub clean : Action → Bool
+clean a =
+    eqb (a .byte5) 0 && (eqb (a .byte6) 0 && (eqb (a .byte7) 0
+    && (zeroUnless (namesNode (a .kind)) (a .node) && (zeroUnless (namesAddress (a .kind)) (a .address)
+    && (zeroUnless (namesAnswer (a .kind)) (a .ack) && (zeroUnless (namesAnswer (a .kind)) (a .hold)
+    && (zeroUnless (namesPacket (a .kind)) (a .header) && zeroUnless (namesPacket (a .kind)) (a .datum))))))))
+
+-- an address "below n" or 63
+abbrev pub isAddress : ℕ → ℕ → Bool
+isAddress n a = ltb a n || eqb a everybody
+
+-- the action of a record, by its kind
+abbrev pub packetOf : Action → Packet
+packetOf a = record { to = a .address; head = record { header = a .header }; datum = a .datum }
+
+unfoldable pub moveOf : Action → Move
+moveOf a =
+    cond (eqb (a .kind) 1) (Request (a .node) (packetOf a))
+    (cond (eqb (a .kind) 2) (Arbitrate (a .node))
+    (cond (eqb (a .kind) 3) (Respond (a .node) (a .ack) (eqb (a .hold) 1))
+    (cond (eqb (a .kind) 4) (Clock (a .node))
+    (cond (eqb (a .kind) 5) (Carry Pass)
+    (cond (eqb (a .kind) 6) (Carry Lose)
+    (cond (eqb (a .kind) 7) (Carry (Change (a .address)))
+    (cond (eqb (a .kind) 8) Grant
+    (cond (eqb (a .kind) 9) GapNext
+    Reset))))))))
+
+-- "then 2 to 6": the first number whose condition holds, or the action
+unfoldable pub read : ℕ → Action → Decoded
+read n a =
+    cond (not (isKind (a .kind))) (Refused N.wrong-kind)
+    (cond (not (clean a)) (Refused N.stray-field)
+    (cond (namesNode (a .kind) && not (ltb (a .node) n)) (Refused N.wrong-node)
+    (cond (namesAddress (a .kind) && not (isAddress n (a .address))) (Refused N.wrong-address)
+    (cond (not (ltb (a .ack) 16 && ltb (a .hold) 2)) (Refused N.wrong-answer)
+    (Accepted (moveOf a))))))

@@ -1,0 +1,132 @@
+-- The state that the charts speak of: the nodes' records and marks as a function from numbers to cells. (View.antt shows the code's record as such a state.)
+use mathlib.Core.Bool.{Bool, true, false, cond, _&&_, _||_, not}
+use Prim.Native.Nat.{ℕ, zero, suc}
+use lib.Dec.{eqb, ltb}
+use Rattle.charts.specs.declared.Mode.{Mode}
+use Rattle.charts.specs.declared.Mode.the-variants.{Rest, Sending}
+use Rattle.charts.specs.declared.Packet.{Packet}
+use Rattle.charts.specs.declared.Buffer.{Buffer}
+use Rattle.charts.specs.declared.Buffer.the-variants.{Empty, Full}
+use Rattle.charts.specs.declared.Phase.{Phase}
+use Rattle.charts.specs.declared.Phase.the-variants.{Idle, Busy, Delivering, Granting, Gapping}
+use Rattle.charts.specs.declared.Cell.{Cell}
+use Rattle.charts.specs.declared.Clears.{Clears}
+use Rattle.charts.specs.declared.Clears.the-variants as C
+
+-- "The bus is Idle, Busy, Delivering (sender, signal, next receiver), Granting or Gapping (next node). It keeps four marks for each node: won, pending, holder, misled."
+pub record State : Type 0 where
+  pub n : ℕ
+  pub phase : Phase
+  pub cell : ℕ → Cell
+
+-- a cell with another mode, buffer, packet being sent; with another mark
+abbrev pub setMode : Mode → Cell → Cell
+setMode m c = record { mode = m; buffer = c .buffer; sending = c .sending; won = c .won; pending = c .pending; holder = c .holder; misled = c .misled }
+
+abbrev pub setBuffer : Buffer → Cell → Cell
+setBuffer b c = record { mode = c .mode; buffer = b; sending = c .sending; won = c .won; pending = c .pending; holder = c .holder; misled = c .misled }
+
+abbrev pub setSending : Packet → Cell → Cell
+setSending p c = record { mode = c .mode; buffer = c .buffer; sending = p; won = c .won; pending = c .pending; holder = c .holder; misled = c .misled }
+
+abbrev pub setWon : Bool → Cell → Cell
+setWon b c = record { mode = c .mode; buffer = c .buffer; sending = c .sending; won = b; pending = c .pending; holder = c .holder; misled = c .misled }
+
+abbrev pub setPending : Bool → Cell → Cell
+setPending b c = record { mode = c .mode; buffer = c .buffer; sending = c .sending; won = c .won; pending = b; holder = c .holder; misled = c .misled }
+
+abbrev pub setHolder : Bool → Cell → Cell
+setHolder b c = record { mode = c .mode; buffer = c .buffer; sending = c .sending; won = c .won; pending = c .pending; holder = b; misled = c .misled }
+
+abbrev pub setMisled : Bool → Cell → Cell
+setMisled b c = record { mode = c .mode; buffer = c .buffer; sending = c .sending; won = c .won; pending = c .pending; holder = c .holder; misled = b }
+
+-- the marks of the nodes
+abbrev pub wons : (ℕ → Cell) → ℕ → Bool
+wons f k = f k .won
+
+abbrev pub pendings : (ℕ → Cell) → ℕ → Bool
+pendings f k = f k .pending
+
+abbrev pub holders : (ℕ → Cell) → ℕ → Bool
+holders f k = f k .holder
+
+-- f with another value at i
+abbrev pub upd : {A : Type 0} → (ℕ → A) → ℕ → A → ℕ → A
+upd f i a k = cond (eqb k i) a (f k)
+
+-- f holds at one of the n numbers below; at one other than i
+abbrev pub some : (ℕ → Bool) → ℕ → Bool
+some f zero = false
+some f (suc n) = f n || some f n
+
+abbrev pub others : (ℕ → Bool) → ℕ → ℕ → Bool
+others f i n = some (upd f i false) n
+
+-- f holds at each of the n numbers below
+abbrev pub every : (ℕ → Bool) → ℕ → Bool
+every f zero = true
+every f (suc n) = f n && every f n
+
+-- the lowest of the n numbers below at which f holds, else d
+abbrev pub lowest : (ℕ → Bool) → ℕ → ℕ → ℕ
+lowest f zero d = d
+lowest f (suc n) d = lowest f n (cond (f n) n d)
+
+abbrev pub isIdle : Phase → Bool
+isIdle Idle = true
+isIdle Busy = false
+isIdle (Delivering i s j) = false
+isIdle Granting = false
+isIdle (Gapping j) = false
+
+abbrev pub isBusy : Phase → Bool
+isBusy Idle = false
+isBusy Busy = true
+isBusy (Delivering i s j) = false
+isBusy Granting = false
+isBusy (Gapping j) = false
+
+abbrev pub isGranting : Phase → Bool
+isGranting Idle = false
+isGranting Busy = false
+isGranting (Delivering i s j) = false
+isGranting Granting = true
+isGranting (Gapping j) = false
+
+abbrev pub isEmpty : Buffer → Bool
+isEmpty Empty = true
+isEmpty (Full p) = false
+
+-- the state in another phase and with another cell i
+abbrev pub moved : State → Phase → ℕ → Cell → State
+moved s p i c = record { n = s .n; phase = p; cell = upd (s .cell) i c }
+
+-- which marks are cleared
+abbrev pub clearsMisled : Clears → Bool
+clearsMisled C.Nothing = false
+clearsMisled C.Misled = true
+clearsMisled C.Won = false
+
+abbrev pub clearsWon : Clears → Bool
+clearsWon C.Nothing = false
+clearsWon C.Misled = false
+clearsWon C.Won = true
+
+-- a cell with marks cleared or not
+abbrev pub clearedCell : Bool → Bool → Cell → Cell
+clearedCell m w c = record { mode = c .mode; buffer = c .buffer; sending = c .sending; won = c .won && not w; pending = c .pending; holder = c .holder; misled = c .misled && not m }
+
+-- the state with marks of its nodes cleared; "Records and marks of nodes from n on are neither read nor changed"
+abbrev pub cleared : Clears → State → State
+cleared x s = record { n = s .n; phase = s .phase; cell = λ k. clearedCell (clearsMisled x && ltb k (s .n)) (clearsWon x && ltb k (s .n)) (s .cell k) }
+
+-- "A fresh bus is Idle with no marks, every node in Rest, buffers empty"; the packet being sent is "all 0 on a fresh bus"
+abbrev pub nothing : Packet
+nothing = record { to = 0; head = record { header = 0 }; datum = 0 }
+
+abbrev pub freshCell : Cell
+freshCell = record { mode = Rest; buffer = Empty; sending = nothing; won = false; pending = false; holder = false; misled = false }
+
+abbrev pub fresh : ℕ → State
+fresh n = record { n = n; phase = Idle; cell = λ k. freshCell }

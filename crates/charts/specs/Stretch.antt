@@ -1,0 +1,128 @@
+-- The acknowledgement claim of demand 3 once more, in a form that speaks of places in the list of events alone: it uses no book. proofs/Stretches.antt proves it from the first form.
+use mathlib.Core.Path.{_≡_}
+use mathlib.Core.Bool.{Bool, true, false, cond, _&&_, _||_, not}
+use mathlib.Core.List.{List, [], _∷_, _++_}
+use Prim.Native.Nat.{ℕ}
+use lib.Dec.{eqb}
+use Rattle.charts.specs.declared.Report.{Report}
+use Rattle.charts.specs.declared.Report.the-variants.{Silent, Won, Lost, Sent, Acked, Miss, Good, Dcrc, Broad}
+use Rattle.charts.specs.declared.Packet.{Packet}
+use Rattle.charts.specs.declared.Move.{Move}
+use Rattle.charts.specs.declared.Move.the-variants.{Request, Arbitrate, Respond, Clock, Carry, Grant, GapNext, Reset}
+use Rattle.charts.specs.declared.Action.{Action}
+use Rattle.charts.specs.Step.{Event, refusal, accepted}
+use Rattle.charts.specs.Demand.{history}
+
+-- "its node's last accepted respond had hold 1 and no request of that node was accepted since", after one move more and after a list of events
+abbrev pub heldBy : ℕ → Move → Bool → Bool
+heldBy i (Request j p) h = h && not (eqb i j)
+heldBy i (Arbitrate j) h = h
+heldBy i (Respond j a hold) h = cond (eqb i j) hold h
+heldBy i (Clock j) h = h
+heldBy i (Carry w) h = h
+heldBy i Grant h = h
+heldBy i GapNext h = h
+heldBy i Reset h = h
+
+abbrev pub heldFrom : ℕ → Bool → List Event → Bool
+heldFrom i h [] = h
+heldFrom i h (refusal k ∷ l) = heldFrom i h l
+heldFrom i h (accepted m r ∷ l) = heldFrom i (heldBy i m h) l
+
+abbrev pub held : ℕ → List Event → Bool
+held i l = heldFrom i false l
+
+-- the move is a request of node i; the report is node i's won
+abbrev pub requestOf : ℕ → Move → Bool
+requestOf i (Request j p) = eqb i j
+requestOf i (Arbitrate j) = false
+requestOf i (Respond j a hold) = false
+requestOf i (Clock j) = false
+requestOf i (Carry w) = false
+requestOf i Grant = false
+requestOf i GapNext = false
+requestOf i Reset = false
+
+abbrev pub wonOf : ℕ → Report → Bool
+wonOf i Silent = false
+wonOf i (Won j) = eqb i j
+wonOf i (Lost j) = false
+wonOf i (Sent j) = false
+wonOf i (Acked j a) = false
+wonOf i (Miss j) = false
+wonOf i (Good j h d) = false
+wonOf i (Dcrc j h) = false
+wonOf i (Broad j h d) = false
+
+-- no `won` of node i in a list of events; no request of node i starts in it, h saying whether the next one would start at once
+abbrev pub noWon : ℕ → List Event → Bool
+noWon i [] = true
+noWon i (refusal k ∷ l) = noWon i l
+noWon i (accepted m r ∷ l) = not (wonOf i r) && noWon i l
+
+abbrev pub noStart : ℕ → Bool → List Event → Bool
+noStart i h [] = true
+noStart i h (refusal k ∷ l) = noStart i h l
+noStart i h (accepted m r ∷ l) = not ((requestOf i m && h) || wonOf i r) && noStart i (heldBy i m h) l
+
+-- "A request starts at once if […]. Any other starts with its node's next won": the event e, after the events `early`, starts node i's request of the packet p
+pub data Starts (i : ℕ) (early : List Event) : Event → Packet → Type 0 where
+  at-once : {p : Packet} {r : Report} → held i early ≡ true → Starts i early (accepted (Request i p) r) p
+  by-won : {m : Move} {p : Packet} (r : Report) (x y : List Event) → early ≡ x ++ (accepted (Request i p) r ∷ y) → held i x ≡ false → noWon i y ≡ true → Starts i early (accepted m (Won i)) p
+
+-- "the addressed node's, good h d or dcrc h, with the request's own header and data"; "exactly one respond is accepted: that node's, […] with a"
+pub data Tells (p : Packet) : Event → Type 0 where
+  good : {m : Move} → Tells p (accepted m (Good (p .to) (p .head) (p .datum)))
+  dcrc : {m : Move} → Tells p (accepted m (Dcrc (p .to) (p .head)))
+
+pub data Gives (p : Packet) (a : ℕ) : Event → Type 0 where
+  gives : {hold : Bool} {r : Report} → Gives p a (accepted (Respond (p .to) a hold) r)
+
+-- no node is told and no respond is accepted in a list of events
+abbrev pub tellsNone : Report → Bool
+tellsNone Silent = true
+tellsNone (Won i) = true
+tellsNone (Lost i) = true
+tellsNone (Sent i) = true
+tellsNone (Acked i a) = true
+tellsNone (Miss i) = true
+tellsNone (Good i h d) = false
+tellsNone (Dcrc i h) = false
+tellsNone (Broad i h d) = false
+
+abbrev pub givesNone : Move → Bool
+givesNone (Request i p) = true
+givesNone (Arbitrate i) = true
+givesNone (Respond i a hold) = false
+givesNone (Clock i) = true
+givesNone (Carry w) = true
+givesNone Grant = true
+givesNone GapNext = true
+givesNone Reset = true
+
+abbrev pub quiet : List Event → Bool
+quiet [] = true
+quiet (refusal k ∷ l) = quiet l
+quiet (accepted m r ∷ l) = givesNone m && (tellsNone r && quiet l)
+
+-- the events before an `ack a` of node i: its request's start, later one told report, later one respond, and between these and up to the ack nothing told, no respond, no other start of node i
+pub record Witnessed (i a : ℕ) (before : List Event) : Type 0 where
+  pub packet : Packet
+  pub early : List Event
+  pub start : Event
+  pub first : List Event
+  pub tell : Event
+  pub second : List Event
+  pub give : Event
+  pub third : List Event
+  pub split : before ≡ early ++ (start ∷ (first ++ (tell ∷ (second ++ (give ∷ third)))))
+  pub starts : Starts i early start packet
+  pub last : noStart i (held i (early ++ (start ∷ []))) (first ++ (tell ∷ (second ++ (give ∷ third)))) ≡ true
+  pub tells : Tells packet tell
+  pub answers : Gives packet a give
+  pub only : (quiet first ≡ true) × (quiet second ≡ true) × (quiet third ≡ true)
+
+-- the claim about a list of action records, played from the fresh bus of n nodes
+abbrev pub EveryAck : ℕ → List Action → Type 0
+EveryAck n l =
+    (before later : List Event) (m : Move) (i a : ℕ) → history n l ≡ before ++ (accepted m (Acked i a) ∷ later) → Witnessed i a before

@@ -1,0 +1,204 @@
+// The types of the bench: document 01's packets, modes, signals, nodes and bus, its actions and reports.
+// The charts (specs/) and the code of the other crates share them. Nothing here runs.
+
+// What a Header signal carries, and what stays of it in packets, modes and reports.
+pub struct Head {
+    pub header: u32,
+}
+
+// A packet: its address (63: all nodes), its header and its datum.
+pub struct Packet {
+    pub to: u8,
+    pub head: Head,
+    pub datum: u32,
+}
+
+// What AckEnd remembers: "remembering a if it was a good Ack".
+pub enum Seen {
+    Ack(u8),
+    Nothing,
+}
+
+// What TailOwn and TailAll remember of the data: the datum if its check was good.
+pub enum Datum {
+    Good(u32),
+    Bad,
+}
+
+// A node's mode with what that mode remembers, in document 01's order.
+pub enum Mode {
+    Rest,
+    AwaitAck,
+    AckBody,
+    AckEnd(Seen),
+    Opened,
+    Addressed,
+    HeadOwn,
+    HeadAll,
+    BodyOwn(Head),
+    BodyAll(Head),
+    TailOwn(Head, Datum),
+    TailAll(Head, Datum),
+    Wait,
+    Owed,
+    Sending(u8),
+    Told,
+    Answering,
+    Acking { step: u8, ack: u8, hold: bool },
+    Holding,
+    Spurious,
+}
+
+// A signal. The bool of Header, Data and Ack is its check: true for good.
+pub enum Signal {
+    Start,
+    End,
+    Prefix,
+    Gap,
+    Dhead,
+    Dest(u8),
+    Header(Head, bool),
+    Data(u32, bool),
+    Ack(u8, bool),
+}
+
+// "its buffer (one packet or empty)"
+pub enum Buffer {
+    Empty,
+    Full(Packet),
+}
+
+// A node's record: its mode, its buffer and the packet it is sending.
+pub struct Node {
+    pub mode: Mode,
+    pub buffer: Buffer,
+    pub sending: Packet,
+}
+
+// What the bus is in.
+pub enum Phase {
+    Idle,
+    Busy,
+    Delivering {
+        sender: u8,
+        signal: Signal,
+        next: u8,
+    },
+    Granting,
+    Gapping(u8),
+}
+
+// The bus: n nodes, its phase, the nodes' records and four marks for each node.
+pub struct Bus {
+    pub n: u8,
+    pub phase: Phase,
+    pub nodes: [Node; 63],
+    pub won: [bool; 63],
+    pub pending: [bool; 63],
+    pub holder: [bool; 63],
+    pub misled: [bool; 63],
+}
+
+// A node's record with its four marks: all that the bus keeps of one node.
+pub struct Cell {
+    pub mode: Mode,
+    pub buffer: Buffer,
+    pub sending: Packet,
+    pub won: bool,
+    pub pending: bool,
+    pub holder: bool,
+    pub misled: bool,
+}
+
+// A report with its node, or none.
+pub enum Report {
+    Silent,
+    Won(u8),
+    Lost(u8),
+    Sent(u8),
+    Acked(u8, u8),
+    Miss(u8),
+    Good(u8, Head, u32),
+    Dcrc(u8, Head),
+    Broad(u8, Head, u32),
+}
+
+// What a signal makes of a node: its next mode, its report, and whether it is entered as pending.
+pub struct Heard {
+    pub mode: Mode,
+    pub report: Report,
+    pub pends: bool,
+}
+
+// What a node does when it is clocked: nothing, end a holding that nobody hears, or put out a signal and go to a mode with a report.
+pub enum Output {
+    Nothing,
+    Frees,
+    Puts(Signal, Mode, Report),
+}
+
+// How a signal is carried to its next receiver: kinds 5, 6 and 7.
+pub enum Way {
+    Pass,
+    Lose,
+    Change(u8),
+}
+
+// What arrives there: the way is not open, no signal, or a signal with whether it misleads the receiver.
+pub enum Arrival {
+    Closed,
+    Lost,
+    Hears(Signal, bool),
+}
+
+// The marks that an action clears at every node: a Start the misled ones, a reset the won ones.
+pub enum Clears {
+    Nothing,
+    Misled,
+    Won,
+}
+
+// An action record as a run file has it. Bytes 5, 6 and 7 are its three zeros.
+pub struct Action {
+    pub kind: u8,
+    pub node: u8,
+    pub address: u8,
+    pub ack: u8,
+    pub hold: u8,
+    pub byte5: u8,
+    pub byte6: u8,
+    pub byte7: u8,
+    pub header: u32,
+    pub datum: u32,
+}
+
+// An action whose fields are in their ranges.
+pub enum Move {
+    Request { node: u8, packet: Packet },
+    Arbitrate(u8),
+    Respond { node: u8, ack: u8, hold: bool },
+    Clock(u8),
+    Carry(Way),
+    Grant,
+    GapNext,
+    Reset,
+}
+
+// An action record looked at: the action, or the number of its refusal.
+pub enum Decoded {
+    Refused(u8),
+    Accepted(Move),
+}
+
+// What a step returns: 0 or the number of its refusal, its report and the bus.
+pub struct Played {
+    pub number: u8,
+    pub report: Report,
+    pub bus: Bus,
+}
+
+// What a fresh bus is asked for returns: 0 or the number of its refusal, and the bus.
+pub struct Begun {
+    pub number: u8,
+    pub bus: Bus,
+}
