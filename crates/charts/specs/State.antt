@@ -102,24 +102,11 @@ isEmpty (Full p) = false
 abbrev pub moved : State → Phase → ℕ → Cell → State
 moved s p i c = record { n = s .n; phase = p; cell = upd (s .cell) i c }
 
--- which marks are cleared
-abbrev pub clearsMisled : Clears → Bool
-clearsMisled C.Nothing = false
-clearsMisled C.Misled = true
-clearsMisled C.Won = false
-
-abbrev pub clearsWon : Clears → Bool
-clearsWon C.Nothing = false
-clearsWon C.Misled = false
-clearsWon C.Won = true
-
--- a cell with marks cleared or not
-abbrev pub clearedCell : Bool → Bool → Cell → Cell
-clearedCell m w c = record { mode = c .mode; buffer = c .buffer; sending = c .sending; won = c .won && not w; pending = c .pending; holder = c .holder; misled = c .misled && not m }
-
 -- the state with marks of its nodes cleared; "Records and marks of nodes from n on are neither read nor changed"
 abbrev pub cleared : Clears → State → State
-cleared x s = record { n = s .n; phase = s .phase; cell = λ k. clearedCell (clearsMisled x && ltb k (s .n)) (clearsWon x && ltb k (s .n)) (s .cell k) }
+cleared C.Nothing s = s
+cleared C.Misled s = record { n = s .n; phase = s .phase; cell = λ k. setMisled (s .cell k .misled && not (ltb k (s .n))) (s .cell k) }
+cleared C.Won s = record { n = s .n; phase = s .phase; cell = λ k. setWon (s .cell k .won && not (ltb k (s .n))) (s .cell k) }
 
 -- "A fresh bus is Idle with no marks, every node in Rest, buffers empty"; the packet being sent is "all 0 on a fresh bus"
 abbrev pub nothing : Packet

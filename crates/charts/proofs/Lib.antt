@@ -1,0 +1,4 @@
+pub mod Tools
+pub mod Places
+pub mod Ways
+pub mod Steps

@@ -1,0 +1,330 @@
+-- Modes by their places, and the reception chart by places and classes: `key` says once that what a node comes to goes by the place of its mode and the class of the signal,
+-- so that a rule of the chart is one test, computed over 23 × 14 pairs (`law`).
+use mathlib.Core.Path.{_≡_, refl, sym, ap, subst, _∙_}
+use mathlib.Core.Bool.{Bool, true, false, cond, _&&_, _||_, not, Bool·beq}
+use mathlib.Core.List.{List, [], _∷_}
+use Prim.Native.Nat.{ℕ, _<_, _+_, _*_}
+use lib.Dec.{T, eqb, ltb, lit<}
+use lib.ListN.{getD}
+use borrow.Author.Tests.{eqb-true, not-true}
+use Rattle.charts.specs.declared.Head.{Head}
+use Rattle.charts.specs.declared.Seen.the-variants as Sn
+use Rattle.charts.specs.declared.Datum.the-variants as D
+use Rattle.charts.specs.declared.Mode.{Mode}
+use Rattle.charts.specs.declared.Mode.the-variants.{Rest, AwaitAck, AckBody, AckEnd, Opened, Addressed, HeadOwn, HeadAll, BodyOwn, BodyAll, TailOwn, TailAll, Wait, Owed, Sending, Told, Answering, Acking, Holding, Spurious}
+use Rattle.charts.specs.declared.Signal.{Signal}
+use Rattle.charts.specs.declared.Signal.the-variants.{Start, End, Prefix, Gap, Dhead, Dest, Header, Data, Ack}
+use Rattle.charts.specs.declared.Report.{Report}
+use Rattle.charts.specs.declared.Report.the-variants.{Silent, Won, Lost, Sent, Acked, Miss, Good, Dcrc, Broad}
+use Rattle.charts.specs.declared.Heard.{Heard}
+use Rattle.charts.specs.Modes as P
+use Rattle.charts.specs.Modes.{placeOf}
+use Rattle.charts.specs.Signals as S
+use Rattle.charts.specs.Signals.{classOf, isLine, closes}
+use Rattle.charts.specs.State.{every}
+use Rattle.charts.specs.Reception.{answer, hears}
+use Rattle.charts.proofs.Tools.{never, implies, is-true, implied, pick, beq-eq, everyPair, table-at, pairs-at, mem}
+
+-- the clauses from here to `place-lt` are printed by tools/places.py
+-- the step, acknowledgement, hold, header and datum that a mode remembers
+abbrev pub stepIn : Mode → ℕ
+stepIn Rest = 0
+stepIn AwaitAck = 0
+stepIn AckBody = 0
+stepIn (AckEnd (Sn.Ack a)) = 0
+stepIn (AckEnd Sn.Nothing) = 0
+stepIn Opened = 0
+stepIn Addressed = 0
+stepIn HeadOwn = 0
+stepIn HeadAll = 0
+stepIn (BodyOwn h) = 0
+stepIn (BodyAll h) = 0
+stepIn (TailOwn h (D.Good d)) = 0
+stepIn (TailOwn h D.Bad) = 0
+stepIn (TailAll h (D.Good d)) = 0
+stepIn (TailAll h D.Bad) = 0
+stepIn Wait = 0
+stepIn Owed = 0
+stepIn (Sending k) = k
+stepIn Told = 0
+stepIn Answering = 0
+stepIn (Acking k a b) = k
+stepIn Holding = 0
+stepIn Spurious = 0
+
+abbrev pub ackIn : Mode → ℕ
+ackIn Rest = 0
+ackIn AwaitAck = 0
+ackIn AckBody = 0
+ackIn (AckEnd (Sn.Ack a)) = a
+ackIn (AckEnd Sn.Nothing) = 0
+ackIn Opened = 0
+ackIn Addressed = 0
+ackIn HeadOwn = 0
+ackIn HeadAll = 0
+ackIn (BodyOwn h) = 0
+ackIn (BodyAll h) = 0
+ackIn (TailOwn h (D.Good d)) = 0
+ackIn (TailOwn h D.Bad) = 0
+ackIn (TailAll h (D.Good d)) = 0
+ackIn (TailAll h D.Bad) = 0
+ackIn Wait = 0
+ackIn Owed = 0
+ackIn (Sending k) = 0
+ackIn Told = 0
+ackIn Answering = 0
+ackIn (Acking k a b) = a
+ackIn Holding = 0
+ackIn Spurious = 0
+
+abbrev pub holdIn : Mode → Bool
+holdIn Rest = false
+holdIn AwaitAck = false
+holdIn AckBody = false
+holdIn (AckEnd (Sn.Ack a)) = false
+holdIn (AckEnd Sn.Nothing) = false
+holdIn Opened = false
+holdIn Addressed = false
+holdIn HeadOwn = false
+holdIn HeadAll = false
+holdIn (BodyOwn h) = false
+holdIn (BodyAll h) = false
+holdIn (TailOwn h (D.Good d)) = false
+holdIn (TailOwn h D.Bad) = false
+holdIn (TailAll h (D.Good d)) = false
+holdIn (TailAll h D.Bad) = false
+holdIn Wait = false
+holdIn Owed = false
+holdIn (Sending k) = false
+holdIn Told = false
+holdIn Answering = false
+holdIn (Acking k a b) = b
+holdIn Holding = false
+holdIn Spurious = false
+
+abbrev pub headIn : Mode → Head
+headIn Rest = record { header = 0 }
+headIn AwaitAck = record { header = 0 }
+headIn AckBody = record { header = 0 }
+headIn (AckEnd (Sn.Ack a)) = record { header = 0 }
+headIn (AckEnd Sn.Nothing) = record { header = 0 }
+headIn Opened = record { header = 0 }
+headIn Addressed = record { header = 0 }
+headIn HeadOwn = record { header = 0 }
+headIn HeadAll = record { header = 0 }
+headIn (BodyOwn h) = h
+headIn (BodyAll h) = h
+headIn (TailOwn h (D.Good d)) = h
+headIn (TailOwn h D.Bad) = h
+headIn (TailAll h (D.Good d)) = h
+headIn (TailAll h D.Bad) = h
+headIn Wait = record { header = 0 }
+headIn Owed = record { header = 0 }
+headIn (Sending k) = record { header = 0 }
+headIn Told = record { header = 0 }
+headIn Answering = record { header = 0 }
+headIn (Acking k a b) = record { header = 0 }
+headIn Holding = record { header = 0 }
+headIn Spurious = record { header = 0 }
+
+abbrev pub datumIn : Mode → ℕ
+datumIn Rest = 0
+datumIn AwaitAck = 0
+datumIn AckBody = 0
+datumIn (AckEnd (Sn.Ack a)) = 0
+datumIn (AckEnd Sn.Nothing) = 0
+datumIn Opened = 0
+datumIn Addressed = 0
+datumIn HeadOwn = 0
+datumIn HeadAll = 0
+datumIn (BodyOwn h) = 0
+datumIn (BodyAll h) = 0
+datumIn (TailOwn h (D.Good d)) = d
+datumIn (TailOwn h D.Bad) = 0
+datumIn (TailAll h (D.Good d)) = d
+datumIn (TailAll h D.Bad) = 0
+datumIn Wait = 0
+datumIn Owed = 0
+datumIn (Sending k) = 0
+datumIn Told = 0
+datumIn Answering = 0
+datumIn (Acking k a b) = 0
+datumIn Holding = 0
+datumIn Spurious = 0
+
+-- the modes by their places
+abbrev pub modes : ℕ → ℕ → Bool → Head → ℕ → List Mode
+modes k a b h d =
+    Rest ∷ AwaitAck ∷ AckBody ∷ (AckEnd (Sn.Ack a)) ∷ (AckEnd Sn.Nothing) ∷ Opened ∷ Addressed ∷ HeadOwn ∷ HeadAll ∷ (BodyOwn h) ∷ (BodyAll h) ∷ (TailOwn h (D.Good d)) ∷ (TailOwn h D.Bad) ∷ (TailAll h (D.Good d)) ∷ (TailAll h D.Bad) ∷ Wait ∷ Owed ∷ (Sending k) ∷ Told ∷ Answering ∷ (Acking k a b) ∷ Holding ∷ Spurious ∷ []
+
+pub mode-at : (m : Mode) → m ≡ getD (modes (stepIn m) (ackIn m) (holdIn m) (headIn m) (datumIn m)) (placeOf m) Spurious
+mode-at Rest = refl
+mode-at AwaitAck = refl
+mode-at AckBody = refl
+mode-at (AckEnd (Sn.Ack a)) = refl
+mode-at (AckEnd Sn.Nothing) = refl
+mode-at Opened = refl
+mode-at Addressed = refl
+mode-at HeadOwn = refl
+mode-at HeadAll = refl
+mode-at (BodyOwn h) = refl
+mode-at (BodyAll h) = refl
+mode-at (TailOwn h (D.Good d)) = refl
+mode-at (TailOwn h D.Bad) = refl
+mode-at (TailAll h (D.Good d)) = refl
+mode-at (TailAll h D.Bad) = refl
+mode-at Wait = refl
+mode-at Owed = refl
+mode-at (Sending k) = refl
+mode-at Told = refl
+mode-at Answering = refl
+mode-at (Acking k a b) = refl
+mode-at Holding = refl
+mode-at Spurious = refl
+
+pub place-lt : (m : Mode) → placeOf m < 23
+place-lt Rest = lit< tt
+place-lt AwaitAck = lit< tt
+place-lt AckBody = lit< tt
+place-lt (AckEnd (Sn.Ack a)) = lit< tt
+place-lt (AckEnd Sn.Nothing) = lit< tt
+place-lt Opened = lit< tt
+place-lt Addressed = lit< tt
+place-lt HeadOwn = lit< tt
+place-lt HeadAll = lit< tt
+place-lt (BodyOwn h) = lit< tt
+place-lt (BodyAll h) = lit< tt
+place-lt (TailOwn h (D.Good d)) = lit< tt
+place-lt (TailOwn h D.Bad) = lit< tt
+place-lt (TailAll h (D.Good d)) = lit< tt
+place-lt (TailAll h D.Bad) = lit< tt
+place-lt Wait = lit< tt
+place-lt Owed = lit< tt
+place-lt (Sending k) = lit< tt
+place-lt Told = lit< tt
+place-lt Answering = lit< tt
+place-lt (Acking k a b) = lit< tt
+place-lt Holding = lit< tt
+place-lt Spurious = lit< tt
+
+-- a mode at a place is the one that stands there, with what it remembers
+pub mode-is : (m : Mode) (p : ℕ) → placeOf m ≡ p → m ≡ getD (modes (stepIn m) (ackIn m) (holdIn m) (headIn m) (datumIn m)) p Spurious
+mode-is m p e = mode-at m ∙ ap (λ p. getD (modes (stepIn m) (ackIn m) (holdIn m) (headIn m) (datumIn m)) p Spurious) e
+
+-- the place of a mode with its step: Sending's at the odd numbers from 31, Acking's at the even ones from 30
+abbrev pub sendingAt : ℕ → ℕ
+sendingAt k = 31 + 2 * k
+
+abbrev pub ackingAt : ℕ → ℕ
+ackingAt k = 30 + 2 * k
+
+abbrev pub stepAt : ℕ → ℕ → ℕ
+stepAt p k = cond (eqb p P.sending) (sendingAt k) (cond (eqb p P.acking) (ackingAt k) p)
+
+abbrev pub stepOf : Mode → ℕ
+stepOf m = stepAt (placeOf m) (stepIn m)
+
+-- a test that passes at the 23 places holds of every mode
+pub law-mode : (f : ℕ → Bool) → T (every f 23) → (m : Mode) → f (placeOf m) ≡ true
+law-mode f t m = table-at f 23 t (placeOf m) (place-lt m)
+
+-- the word of a report
+abbrev pub wordOf : Report → ℕ
+wordOf Silent = 0
+wordOf (Won i) = 1
+wordOf (Lost i) = 2
+wordOf (Sent i) = 3
+wordOf (Acked i a) = 4
+wordOf (Miss i) = 5
+wordOf (Good i h d) = 6
+wordOf (Dcrc i h) = 7
+wordOf (Broad i h d) = 8
+
+-- what matters of what a node heard: the place of its mode, whether it pends, and the word it reports
+pub record Next : Type 0 where
+  pub place : ℕ
+  pub pends : Bool
+  pub word : ℕ
+
+abbrev pub nextOf : Heard → Next
+nextOf x = record { place = placeOf (x .mode); pends = x .pends; word = wordOf (x .report) }
+
+-- the chart by places and classes, computed from the chart at one mode of each place
+abbrev pub next : ℕ → ℕ → Next
+next p c = nextOf (answer 0 (getD (modes 0 0 false (record { header = 0 }) 0) p Spurious) c Start)
+
+arms : (b : Bool) (x y u v : Heard) → nextOf x ≡ nextOf u → nextOf y ≡ nextOf v → nextOf (cond b x y) ≡ nextOf (cond b u v)
+arms true x y u v p q = p
+arms false x y u v p q = q
+
+key : (me : ℕ) (m : Mode) (c : ℕ) (s : Signal) → nextOf (answer me m c s) ≡ next (placeOf m) c
+key me Rest c s = refl
+key me AwaitAck c s = arms (eqb c S.prefix) _ _ _ _ refl (arms (eqb c S.start) _ _ _ _ refl (arms (eqb c S.gap) _ _ _ _ refl refl))
+key me AckBody c s = arms (eqb c S.gap) _ _ _ _ refl (arms (isLine c) _ _ _ _ refl (arms (eqb c S.ackGood) _ _ _ _ refl refl))
+key me (AckEnd (Sn.Ack a)) c s = arms (closes c) _ _ _ _ refl (arms (eqb c S.gap) _ _ _ _ refl refl)
+key me (AckEnd Sn.Nothing) c s = arms (eqb c S.gap) _ _ _ _ refl refl
+key me Opened c s = refl
+key me Addressed c s = refl
+key me HeadOwn c s = arms (eqb c S.headerGood) _ _ _ _ refl refl
+key me HeadAll c s = arms (eqb c S.headerGood) _ _ _ _ refl refl
+key me (BodyOwn h) c s = arms (eqb c S.dataGood) _ _ _ _ refl (arms (eqb c S.dataBad) _ _ _ _ refl refl)
+key me (BodyAll h) c s = arms (eqb c S.dataGood) _ _ _ _ refl (arms (eqb c S.dataBad) _ _ _ _ refl refl)
+key me (TailOwn h (D.Good d)) c s = arms (closes c) _ _ _ _ refl refl
+key me (TailOwn h D.Bad) c s = arms (closes c) _ _ _ _ refl refl
+key me (TailAll h (D.Good d)) c s = arms (closes c) _ _ _ _ refl refl
+key me (TailAll h D.Bad) c s = arms (closes c) _ _ _ _ refl refl
+key me Wait c s = refl
+key me Owed c s = refl
+key me (Sending k) c s = refl
+key me Told c s = refl
+key me Answering c s = refl
+key me (Acking k a b) c s = refl
+key me Holding c s = refl
+key me Spurious c s = refl
+
+pub class-lt : (me : ℕ) (s : Signal) → classOf me s < 14
+class-lt me Start = lit< tt
+class-lt me End = lit< tt
+class-lt me Prefix = lit< tt
+class-lt me Gap = lit< tt
+class-lt me Dhead = lit< tt
+class-lt me (Dest a) = pick (λ c. c < 14) (eqb a me) _ _ (lit< tt) (pick (λ c. c < 14) (eqb a S.everybody) _ _ (lit< tt) (lit< tt))
+class-lt me (Header h good) = pick (λ c. c < 14) good _ _ (lit< tt) (lit< tt)
+class-lt me (Data d good) = pick (λ c. c < 14) good _ _ (lit< tt) (lit< tt)
+class-lt me (Ack a good) = pick (λ c. c < 14) good _ _ (lit< tt) (lit< tt)
+
+-- a test of what a node comes to, of the place of its mode and of the signal's class, that passes at all pairs, holds of every node and signal
+pub law : (f : Next → ℕ → ℕ → Bool) → T (everyPair (λ p c. f (next p c) p c) 23 14) → (me : ℕ) (m : Mode) (s : Signal) → f (nextOf (hears me m s)) (placeOf m) (classOf me s) ≡ true
+unfolding hears
+law f t me m s =
+    subst (λ y. f y (placeOf m) (classOf me s) ≡ true) (sym (key me m (classOf me s) s))
+    (pairs-at (λ p c. f (next p c) p c) 23 14 t (placeOf m) (classOf me s) (place-lt m) (class-lt me s))
+
+-- a node in such a mode is pending; is a holder; has a packet of its own half read
+abbrev pub owing : ℕ → Bool
+owing p = mem p (P.headOwn ∷ P.bodyOwn ∷ P.tailOwnGood ∷ P.tailOwnBad ∷ P.owed ∷ P.told ∷ [])
+
+abbrev pub active : ℕ → Bool
+active p = mem p (P.sending ∷ P.answering ∷ P.acking ∷ P.holding ∷ P.spurious ∷ [])
+
+abbrev pub half : ℕ → Bool
+half p = mem p (P.headOwn ∷ P.bodyOwn ∷ P.tailOwnGood ∷ P.tailOwnBad ∷ [])
+
+-- a node owes what it owed before, or what it pends for now; nobody becomes or stops being a holder by hearing
+pub owes : (me : ℕ) (m : Mode) (s : Signal) → owing (placeOf (hears me m s .mode)) ≡ owing (placeOf m) || hears me m s .pends
+owes me m s = beq-eq _ _ (law (λ y p c. Bool·beq (owing (y .place)) (owing p || y .pends)) tt me m s)
+
+pub acts : (me : ℕ) (m : Mode) (s : Signal) → active (placeOf (hears me m s .mode)) ≡ active (placeOf m)
+acts me m s = beq-eq _ _ (law (λ y p c. Bool·beq (active (y .place)) (active p)) tt me m s)
+
+-- after an End no packet is half read
+pub ended : (me : ℕ) (m : Mode) → half (placeOf (hears me m End .mode)) ≡ false
+ended me m = not-true _ (law (λ y p c. implies (eqb c S.end) (not (half (y .place)))) tt me m End)
+
+-- a Gap makes nobody owe, and frees nobody who does; a node that neither owes nor holds is at rest after it
+pub gap-owes : (me : ℕ) (m : Mode) → owing (placeOf (hears me m Gap .mode)) ≡ owing (placeOf m)
+gap-owes me m = beq-eq _ _ (law (λ y p c. implies (eqb c S.gap) (Bool·beq (owing (y .place)) (owing p))) tt me m Gap)
+
+pub gap-rests : (me : ℕ) (m : Mode) → owing (placeOf m) ≡ false → active (placeOf m) ≡ false → placeOf (hears me m Gap .mode) ≡ P.rest
+gap-rests me m o a =
+    eqb-true _ _ (rw (o, a) at (law (λ y p c. implies (eqb c S.gap) (implies (not (owing p)) (implies (not (active p)) (eqb (y .place) P.rest)))) tt me m Gap))
