@@ -2,3 +2,5 @@ pub mod Tools
 pub mod Places
 pub mod Ways
 pub mod Steps
+pub mod Stages
+pub mod Reach
