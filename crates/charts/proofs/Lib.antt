@@ -4,3 +4,5 @@ pub mod Ways
 pub mod Steps
 pub mod Stages
 pub mod Reach
+pub mod Sums
+pub mod Progress

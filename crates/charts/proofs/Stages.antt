@@ -23,7 +23,7 @@ use Rattle.charts.proofs.Tools.{implies, implied, both, pick, is-true, 
 use Rattle.charts.proofs.Places.{Next, next, law, active, owing, sendingAt, ackingAt, stepOf}
 
 -- A signal under way: its kind, its round, the steps of its sender, the places of the other nodes before and after they heard it.
--- What is left after it: `turns` times n and `more`
+-- What is left after it: `turns` times n and `more`. `next` is the turn that follows it (where the sender has asked from Holding, the turn after that; 15: none)
 pub record Row : Type 0 where
   pub kind : ℕ
   pub round : ℕ
@@ -32,9 +32,10 @@ pub record Row : Type 0 where
   pub after : List ℕ
   pub turns : ℕ
   pub more : ℕ
+  pub next : ℕ
 
-abbrev row : ℕ → ℕ → List ℕ → List ℕ → List ℕ → ℕ → ℕ → Row
-row k r s b a t m = record { kind = k; round = r; sender = s; before = b; after = a; turns = t; more = m }
+abbrev row : ℕ → ℕ → List ℕ → List ℕ → List ℕ → ℕ → ℕ → ℕ → Row
+row k r s b a t m x = record { kind = k; round = r; sender = s; before = b; after = a; turns = t; more = m; next = x }
 
 -- the other nodes: after each signal of a packet; at rest, done with it or awaiting the acknowledgement; after its Start and its Ack; waiting
 abbrev addressedTo : List ℕ
@@ -67,30 +68,30 @@ ended = P.rest ∷ P.awaitAck ∷ []
 abbrev pub rows : List Row
 rows =
     -- 0 to 5: the packet of the node that won
-    row 0 0 (sendingAt 1 ∷ []) (P.rest ∷ []) (P.opened ∷ []) 17 0
-    ∷ row 4 0 (sendingAt 2 ∷ []) (P.opened ∷ []) (P.addressed ∷ []) 16 0
-    ∷ row 5 0 (sendingAt 3 ∷ []) (P.addressed ∷ []) addressedTo 15 0
-    ∷ row 6 0 (sendingAt 4 ∷ []) addressedTo headRead 14 0
-    ∷ row 7 0 (sendingAt 5 ∷ []) headRead dataRead 13 0
-    ∷ row 1 0 ended dataRead packetRead 12 0
+    row 0 0 (sendingAt 1 ∷ []) (P.rest ∷ []) (P.opened ∷ []) 17 0 1
+    ∷ row 4 0 (sendingAt 2 ∷ []) (P.opened ∷ []) (P.addressed ∷ []) 16 0 2
+    ∷ row 5 0 (sendingAt 3 ∷ []) (P.addressed ∷ []) addressedTo 15 0 3
+    ∷ row 6 0 (sendingAt 4 ∷ []) addressedTo headRead 14 0 4
+    ∷ row 7 0 (sendingAt 5 ∷ []) headRead dataRead 13 0 5
+    ∷ row 1 0 ended dataRead packetRead 12 0 15
     -- 6: a filler of Answering; 7 to 10: Start, Ack, and End or Prefix of the acknowledgement
-    ∷ row 2 0 (P.answering ∷ ackingAt 0 ∷ []) quiet quiet 10 1
-    ∷ row 0 0 (ackingAt 1 ∷ []) quiet ackOpened 9 1
-    ∷ row 8 0 (ackingAt 2 ∷ []) ackOpened ackRead 8 1
-    ∷ row 1 0 (P.rest ∷ []) ackRead waiting 1 0
-    ∷ row 2 1 (P.holding ∷ sendingAt 0 ∷ []) ackRead waiting 7 0
+    ∷ row 2 0 (P.answering ∷ ackingAt 0 ∷ []) quiet quiet 10 1 15
+    ∷ row 0 0 (ackingAt 1 ∷ []) quiet ackOpened 9 1 6
+    ∷ row 8 0 (ackingAt 2 ∷ []) ackOpened ackRead 8 1 7
+    ∷ row 1 0 (P.rest ∷ []) ackRead waiting 1 0 15
+    ∷ row 2 1 (P.holding ∷ sendingAt 0 ∷ []) ackRead waiting 7 0 8
     -- 11: a filler of Holding; 12 to 17: the packet that it sends
-    ∷ row 2 1 (P.holding ∷ sendingAt 0 ∷ []) waiting waiting 7 0
-    ∷ row 0 1 (sendingAt 1 ∷ []) waiting waiting 6 0
-    ∷ row 4 1 (sendingAt 2 ∷ []) waiting waiting 5 0
-    ∷ row 5 1 (sendingAt 3 ∷ []) waiting waiting 4 0
-    ∷ row 6 1 (sendingAt 4 ∷ []) waiting waiting 3 0
-    ∷ row 7 1 (sendingAt 5 ∷ []) waiting waiting 2 0
-    ∷ row 1 1 ended waiting waiting 1 0
+    ∷ row 2 1 (P.holding ∷ sendingAt 0 ∷ []) waiting waiting 7 0 8
+    ∷ row 0 1 (sendingAt 1 ∷ []) waiting waiting 6 0 10
+    ∷ row 4 1 (sendingAt 2 ∷ []) waiting waiting 5 0 11
+    ∷ row 5 1 (sendingAt 3 ∷ []) waiting waiting 4 0 12
+    ∷ row 6 1 (sendingAt 4 ∷ []) waiting waiting 3 0 13
+    ∷ row 7 1 (sendingAt 5 ∷ []) waiting waiting 2 0 14
+    ∷ row 1 1 ended waiting waiting 1 0 15
     ∷ []
 
 abbrev pub rowAt : ℕ → Row
-rowAt d = getD rows d (row 0 0 [] [] [] 0 0)
+rowAt d = getD rows d (row 0 0 [] [] [] 0 0 0)
 
 -- A Busy bus on which one node is about to put out its next signal: that node's step, the round, the places of the other nodes, and what is left.
 -- `next` is the row of the signal that it puts out (Acking's last: an End; with hold 1 it is the row after)

@@ -1,0 +1,793 @@
+-- Every accepted action keeps marks and stage, and a forward one leaves less to do. One clause for each way.
+use mathlib.Core.Path.{_≡_, refl, sym, ap, ap₂, subst, _∙_}
+use mathlib.Core.Logic.{_≢_, _⊎_, inl, inr}
+use mathlib.Core.Bool.{Bool, true, false, cond, _&&_, _||_, not, false≢true, true≢false}
+use mathlib.Core.List.{List, [], _∷_}
+use native.Mathlib.Nat.{mul-le-mul-right}
+use Prim.Native.Nat.{ℕ, zero, suc, _<_, _≤_, _+_, _-_, _*_}
+use native.Mathlib.Omega.{arith}
+use lib.Dec.{T, eqb, ltb, leb, lit<}
+use lib.ListN.{getD}
+use borrow.Author.Tests.{eqb-true, eqb-false, ltb-true, ltb-false, eq-eqb, ne-eqb, leb-true, not-true, lt-leb}
+use Rattle.charts.specs.declared.Mode.{Mode}
+use Rattle.charts.specs.declared.Mode.the-variants.{Rest, AwaitAck, AckBody, AckEnd, Opened, Addressed, HeadOwn, HeadAll, BodyOwn, BodyAll, TailOwn, TailAll, Wait, Owed, Sending, Told, Answering, Acking, Holding, Spurious}
+use Rattle.charts.specs.declared.Signal.{Signal}
+use Rattle.charts.specs.declared.Signal.the-variants.{Start, End, Prefix, Gap, Dhead, Dest, Header, Data, Ack}
+use Rattle.charts.specs.declared.Report.{Report}
+use Rattle.charts.specs.declared.Report.the-variants as R
+use Rattle.charts.specs.declared.Packet.{Packet}
+use Rattle.charts.specs.declared.Phase.{Phase}
+use Rattle.charts.specs.declared.Phase.the-variants.{Idle, Busy, Delivering, Granting, Gapping}
+use Rattle.charts.specs.declared.Cell.{Cell}
+use Rattle.charts.specs.declared.Clears.{Clears}
+use Rattle.charts.specs.declared.Clears.the-variants as C
+use Rattle.charts.specs.declared.Way.{Way}
+use Rattle.charts.specs.declared.Move.{Move}
+use Rattle.charts.specs.declared.Move.the-variants.{Request, Arbitrate, Respond, Clock, Carry, Grant, GapNext, Reset}
+use Rattle.charts.specs.Modes as P
+use Rattle.charts.specs.Modes.{placeOf, isAnswering, isHolding}
+use Rattle.charts.specs.Signals as S
+use Rattle.charts.specs.Signals.{kindOf, isStart, isEnd}
+use Rattle.charts.specs.Reception.{hears}
+use Rattle.charts.specs.Arrivals.{passed}
+use Rattle.charts.specs.State.{State, setMode, setHolder, pendings, holders, upd, some, others, lowest, every, moved, cleared}
+use Rattle.charts.specs.Actions.{Outcome, does, firstOther, nextOther, onward, hearing, granted}
+use Rattle.charts.specs.Demand.{forward}
+use Rattle.charts.proofs.Tools.{never, clash, implies, implied, and-true, both, neither, or-true, pick, pick-by, at-upd, at-upd≢, upd-same, upd-other, upd-map, none-of, some-at, some-agree, others-off, lowest-of, lowest-lt, table-at, mem, everyIn, mem-sub, mem-one, mem-two}
+use Rattle.charts.proofs.Places.{law, law-mode, owing, active, owes, acts, gap-owes, stepIn, stepOf, place-lt, sendingAt, ackingAt, mode-is}
+use Rattle.charts.proofs.Ways.{Puts, start, dhead, dest, header, datum, end-all, end-one, filler, ack-start, ack-body, ack-hold, ack-end, holds-on, Arrives, passes, redirects, bad-header, bad-data, bad-ack, Effect, waits, replies, wins, loses, gives, puts, frees, arrives, drops, grants, grants-none, gaps, resets}
+use Rattle.charts.proofs.Stages.{Row, rowAt, Turn, turnAt, packetRead, quiet, waiting, ended, grantSteps, clearSteps, acting, Delivery, Talk, BusyAt, talks, clears, GrantingAt, GappingAt, Stage, weigh, weights, total, left, bonus, rowRank, turnRank, clearRank, busyRank, rank, heard-lands, lost-lands}
+use Rattle.charts.proofs.Reach.{Marks, Reach, low-places, low-place, step-place, is-passive, passive, passive-steps, is-talker, is-sender, turn-fact, no-turn, sole-quiet}
+use Rattle.charts.proofs.Sums.{total-le, total-gap, total-agree, total-one, weigh-le, weights-upd, next-apart, next-past, next-past-j, left-pos, left-lt, left-next, first-lt, first-apart, first-none}
+
+-- an action leads to a stage; a forward one to a stage with less left than r
+pub record Goes (fwd : Bool) (r : ℕ) (p : Phase) (n : ℕ) (f : ℕ → Cell) : Type 0 where
+  pub stage : Stage p n f
+  pub lower : fwd ≡ true → rank p n f stage < r
+
+-- a stage goes by modes and pending marks alone
+module _ (n : ℕ) (f g : ℕ → Cell) (mode-same : (k : ℕ) → g k .mode ≡ f k .mode) (pend-same : (k : ℕ) → g k .pending ≡ f k .pending) where
+  in-place : (k : ℕ) (l : List ℕ) → mem (placeOf (f k .mode)) l ≡ true → mem (placeOf (g k .mode)) l ≡ true
+  in-place k l h = ap (λ m. mem (placeOf m) l) (mode-same k) ∙ h
+
+  in-step : (k : ℕ) (l : List ℕ) → mem (stepOf (f k .mode)) l ≡ true → mem (stepOf (g k .mode)) l ≡ true
+  in-step k l h = ap (λ m. mem (stepOf m) l) (mode-same k) ∙ h
+
+  same-weight : total (weights g) n ≡ total (weights f) n
+  same-weight = total-agree (weights g) (weights f) n (λ k l. ap (λ m. weigh (placeOf m)) (mode-same k))
+
+  same-stage : (p : Phase) (a : Stage p n f) → (b : Stage p n g) × (rank p n g b ≡ rank p n f a)
+  same-stage Idle a = ((λ k l. ap placeOf (mode-same k) ∙ a k l), refl)
+  same-stage Busy (talks a) =
+      (talks (record { t = a .t; t-lt = a .t-lt; w = a .w; here = a .here; talker = ap stepOf (mode-same (a .w)) ∙ a .talker; room = λ k l z. in-place k (turnAt (a .t) .room) (a .room k l z) }), refl)
+  same-stage Busy (clears a y) = (clears (λ k l. in-step k clearSteps (a k l)) (some-agree (acting g) (acting f) n (λ k l. ap (λ m. active (placeOf m)) (mode-same k)) ∙ y), omega (arith, same-weight))
+  same-stage (Delivering w x j) a = (
+    record {
+      d = a .d;
+      d-lt = a .d-lt;
+      kind = a .kind;
+      here = a .here;
+      next-lt = a .next-lt;
+      apart = a .apart;
+      sender = in-step w (rowAt (a .d) .sender) (a .sender);
+      before = λ k l z y. in-place k (rowAt (a .d) .before) (a .before k l z y);
+      after = λ k l z y. in-place k (rowAt (a .d) .after) (a .after k l z y);
+    },
+    ap (λ m. left w j n + rowRank (a .d) (stepOf m) n) (mode-same w),
+  )
+  same-stage Granting a = (record { steps = λ k l. in-step k grantSteps (a .steps k l); pends = some-agree (pendings g) (pendings f) n (λ k l. pend-same k) ∙ a .pends }, omega (arith, same-weight))
+  same-stage (Gapping j) a = (record { gap-lt = a .gap-lt; calm = λ k l. in-place k quiet (a .calm k l); past = λ k l z. ap placeOf (mode-same k) ∙ a .past k l z }, refl)
+
+  same-goes : (fwd : Bool) (r : ℕ) (p : Phase) → Goes fwd r p n f → Goes fwd r p n g
+  same-goes fwd r p a = let b = same-stage p (a .stage) in record { stage = b .0; lower = λ e. omega (arith, b .1, a .lower e) }
+
+-- clearing misled or won marks changes neither
+cleared-goes : (x : Clears) (t : State) (fwd : Bool) (r : ℕ) → Goes fwd r (t .phase) (t .n) (t .cell) → Goes fwd r (cleared x t .phase) (cleared x t .n) (cleared x t .cell)
+cleared-goes C.Nothing t fwd r a = a
+cleared-goes C.Misled t fwd r a = same-goes (t .n) (t .cell) (cleared C.Misled t .cell) (λ k. refl) (λ k. refl) fwd r (t .phase) a
+cleared-goes C.Won t fwd r a = same-goes (t .n) (t .cell) (cleared C.Won t .cell) (λ k. refl) (λ k. refl) fwd r (t .phase) a
+
+pub cleared-n : (x : Clears) (t : State) → cleared x t .n ≡ t .n
+cleared-n C.Nothing t = refl
+cleared-n C.Misled t = refl
+cleared-n C.Won t = refl
+
+cleared-marks : (x : Clears) (t : State) → ((k : ℕ) → Marks (t .cell k)) → (k : ℕ) → Marks (cleared x t .cell k)
+cleared-marks C.Nothing t m k = m k
+cleared-marks C.Misled t m k = m k
+cleared-marks C.Won t m k = m k
+
+-- GRANTS. The node that is granted owes and has read its packet whole
+granted-owed : (m : Mode) → placeOf m ≡ P.owed → granted m ≡ Spurious
+granted-owed m e = rw e
+
+granted-told : (m : Mode) → placeOf m ≡ P.told → granted m ≡ Answering
+granted-told m e = rw e
+
+owes-whole : (m : Mode) → mem (stepOf m) grantSteps ≡ true → owing (placeOf m) ≡ true → (placeOf m ≡ P.owed) ⊎ (placeOf m ≡ P.told)
+owes-whole m h o =
+    let z : active (placeOf m) ≡ false = not-true _ (implied _ _ (law-mode (λ p. implies (owing p) (not (active p))) tt m) o) in
+    let t : mem (placeOf m) grantSteps ≡ true = ap (λ c. mem c grantSteps) (sym (step-place m z)) ∙ h in
+    mem-two P.owed P.told (placeOf m) (implied _ _ (implied (mem (placeOf m) grantSteps) _ (law-mode (λ p. implies (mem p grantSteps) (implies (owing p) (mem p (P.owed ∷ P.told ∷ [])))) tt m) t) o)
+
+owes-no : (m : Mode) → mem (stepOf m) grantSteps ≡ true → owing (placeOf m) ≡ false → mem (stepOf m) clearSteps ≡ true
+owes-no m h o = rw (ne-eqb (stepOf m) P.owed (no P.owed refl (lit< tt)), ne-eqb (stepOf m) P.told (no P.told refl (lit< tt))) at h
+  where
+    no : (c : ℕ) → owing c ≡ true → c < 30 → stepOf m ≡ c → ⊥
+    no c p l e = true≢false (sym p ∙ ap owing (sym e ∙ sym (low-place m (omega arith))) ∙ o)
+
+-- what a granted node is then
+record Granted (m : Mode) : Type 0 where
+  frees : owing (placeOf (granted m)) ≡ false
+  holds : active (placeOf (granted m)) ≡ true
+  step : mem (stepOf (granted m)) (P.answering ∷ P.spurious ∷ []) ≡ true
+  lighter : weigh (placeOf m) ≡ weigh (placeOf (granted m)) + 1
+
+is-granted : (m : Mode) → (placeOf m ≡ P.owed) ⊎ (placeOf m ≡ P.told) → Granted m
+is-granted m (inl e) = let g = granted-owed m e in record { frees = ap (λ m. owing (placeOf m)) g; holds = ap (λ m. active (placeOf m)) g; step = ap (λ m. mem (stepOf m) (P.answering ∷ P.spurious ∷ [])) g; lighter = ap weigh e ∙ sym (ap (λ m. weigh (placeOf m) + 1) g) }
+is-granted m (inr e) = let g = granted-told m e in record { frees = ap (λ m. owing (placeOf m)) g; holds = ap (λ m. active (placeOf m)) g; step = ap (λ m. mem (stepOf m) (P.answering ∷ P.spurious ∷ [])) g; lighter = ap weigh e ∙ sym (ap (λ m. weigh (placeOf m) + 1) g) }
+
+-- MARKS. What a holder puts out leaves its marks right: it owed nothing, and it goes on acting unless it put out an End
+puts-marks : (i : ℕ) (p : Packet) (m : Mode) (g : Signal) (m′ : Mode) (r : Report) → Puts i p m g m′ r → (owing (placeOf m) ≡ false) × (owing (placeOf m′) ≡ false) × (not (isEnd g) ≡ active (placeOf m′))
+puts-marks i p m g m′ r start = (refl, refl, refl)
+puts-marks i p m g m′ r dhead = (refl, refl, refl)
+puts-marks i p m g m′ r dest = (refl, refl, refl)
+puts-marks i p m g m′ r header = (refl, refl, refl)
+puts-marks i p m g m′ r datum = (refl, refl, refl)
+puts-marks i p m g m′ r (end-all l e) = (refl, refl, refl)
+puts-marks i p m g m′ r (end-one l e) = (refl, refl, refl)
+puts-marks i p m g m′ r filler = (refl, refl, refl)
+puts-marks i p m g m′ r ack-start = (refl, refl, refl)
+puts-marks i p m g m′ r ack-body = (refl, refl, refl)
+puts-marks i p m g m′ r (ack-hold l) = (refl, refl, refl)
+puts-marks i p m g m′ r (ack-end l) = (refl, refl, refl)
+puts-marks i p m g m′ r holds-on = (refl, refl, refl)
+
+module _ (s : State) (v : Reach s) where
+  abbrev n : ℕ
+  n = s .n
+
+  abbrev ms : (k : ℕ) → Marks (s .cell k)
+  ms = v .marks
+
+  -- the marks of the one cell that an action changes
+  own-marks : (m : Move) (i : ℕ) (r : Report) (p : Phase) (c : Cell) (x : Clears) → Effect s m i (does r p c x) → Marks c
+  own-marks m i r p c x (waits e f) = ms i
+  own-marks m i r p c x (replies e) = (ms i .0 ∙ ap (λ m. owing (placeOf m)) e, ms i .1 ∙ ap (λ m. active (placeOf m)) e)
+  own-marks m i r p c x (wins q e f w) = (ms i .0 ∙ ap owing e, refl)
+  own-marks m i r p c x loses = ms i
+  own-marks m i r p c x (gives e) = (ms i .0 ∙ ap (λ m. owing (placeOf m)) e, ms i .1 ∙ ap (λ m. active (placeOf m)) e)
+  own-marks m i r p c x (puts {g = g} {m = m′} q h o y) = let z = puts-marks i (s .cell i .sending) (s .cell i .mode) g m′ r y in (ms i .0 ∙ z .0 ∙ sym (z .1), z .2)
+  own-marks m i r p c x (frees q h e) = (ms i .0 ∙ ap (λ m. owing (placeOf m)) e, refl)
+  own-marks m i r p c x (arrives {t = t} q y) = (ap (λ b. b || hears i (s .cell i .mode) t .pends) (ms i .0) ∙ sym (owes i (s .cell i .mode) t), ms i .1 ∙ sym (acts i (s .cell i .mode) t))
+  own-marks m i r p c x (drops q e) = ms i
+  own-marks m i r p c x (grants q e l) = let g = is-granted (s .cell i .mode) whole in (sym (g .frees), sym (g .holds))
+    where
+      at : GrantingAt (s .n) (s .cell)
+      at = subst (λ p. Stage p (s .n) (s .cell)) q (v .stage)
+
+      whole : (placeOf (s .cell i .mode) ≡ P.owed) ⊎ (placeOf (s .cell i .mode) ≡ P.told)
+      whole = owes-whole (s .cell i .mode) (at .steps i (subst (λ i. i < s .n) l (lowest-lt (pendings (s .cell)) (s .n) 0 e)))
+          (sym (ms i .0) ∙ subst (λ i. s .cell i .pending ≡ true) l (lowest-of (pendings (s .cell)) (s .n) 0 e))
+  own-marks m i r p c x (grants-none q e) = ms i
+  own-marks m i r p c x (gaps q) = (ms i .0 ∙ sym (gap-owes i (s .cell i .mode)), ms i .1 ∙ sym (acts i (s .cell i .mode) Gap))
+  own-marks m i r p c x (resets q) = ms i
+
+  pub marks-kept : (m : Move) (i : ℕ) (r : Report) (p : Phase) (c : Cell) (x : Clears) → Effect s m i (does r p c x) → (k : ℕ) → Marks (cleared x (moved s p i c) .cell k)
+  marks-kept m i r p c x y = cleared-marks x (moved s p i c) (λ k. at-upd (λ k c. Marks c) (s .cell) i c k (own-marks m i r p c x y) (ms k))
+
+abbrev allOf : (ℕ → Bool) → List ℕ → Bool
+allOf h [] = true
+allOf h (x ∷ l) = h x && allOf h l
+
+all-mem : (h : ℕ → Bool) (l : List ℕ) → allOf h l ≡ true → (c : ℕ) → mem c l ≡ true → h c ≡ true
+all-mem h [] t c e = never e
+all-mem h (x ∷ l) t c e = go (eqb c x) refl (all-mem h l (and-true (h x) _ t .1) c) e
+  where
+    go : (b : Bool) → eqb c x ≡ b → (mem c l ≡ true → h c ≡ true) → b || mem c l ≡ true → h c ≡ true
+    go true q r e = ap h (eqb-true c x q) ∙ and-true (h x) _ t .0
+    go false q r e = r e
+
+-- steps and weights: a node at a step of the Busy bus that acts; Acking's first step; nodes that weigh nothing
+abbrev actingStep : ℕ → Bool
+actingStep c = leb 30 c || active c
+
+acting-step : (m : Mode) → actingStep (stepOf m) ≡ true → active (placeOf m) ≡ true
+acting-step m = go (eqb (placeOf m) P.sending) (eqb (placeOf m) P.acking) refl refl
+  where
+    go : (b c : Bool) → eqb (placeOf m) P.sending ≡ b → eqb (placeOf m) P.acking ≡ c → actingStep (cond b (sendingAt (stepIn m)) (cond c (ackingAt (stepIn m)) (placeOf m))) ≡ true → active (placeOf m) ≡ true
+    go true c e q h = ap active (eqb-true (placeOf m) P.sending e)
+    go false true e q h = ap active (eqb-true (placeOf m) P.acking q)
+    go false false e q h = or-true (leb 30 (placeOf m)) (active (placeOf m)) h (lt-leb 30 (placeOf m) (omega (arith, place-lt m)))
+
+acting-in : (l : List ℕ) → allOf actingStep l ≡ true → (m : Mode) → mem (stepOf m) l ≡ true → active (placeOf m) ≡ true
+acting-in l t m e = acting-step m (all-mem actingStep l t (stepOf m) e)
+
+acking-place : (m : Mode) → stepOf m ≡ ackingAt 0 → placeOf m ≡ P.acking
+acking-place m = go (eqb (placeOf m) P.sending) (eqb (placeOf m) P.acking) refl refl
+  where
+    go : (b c : Bool) → eqb (placeOf m) P.sending ≡ b → eqb (placeOf m) P.acking ≡ c → cond b (sendingAt (stepIn m)) (cond c (ackingAt (stepIn m)) (placeOf m)) ≡ ackingAt 0 → placeOf m ≡ P.acking
+    go true c e q h = absurd (omega arith)
+    go false true e q h = eqb-true (placeOf m) P.acking q
+    go false false e q h = absurd (omega (arith, place-lt m))
+
+weigh-quiet : (m : Mode) → mem (placeOf m) quiet ≡ true → weigh (placeOf m) ≡ 0
+weigh-quiet m e = eqb-true _ 0 (implied _ _ (law-mode (λ p. implies (mem p quiet) (eqb (weigh p) 0)) tt m) e)
+
+weigh-answering : (m : Mode) → mem (stepOf m) (P.answering ∷ ackingAt 0 ∷ []) ≡ true → weigh (placeOf m) ≤ bonus (stepOf m)
+weigh-answering m e = go (mem-two P.answering (ackingAt 0) (stepOf m) e)
+  where
+    go : (stepOf m ≡ P.answering) ⊎ (stepOf m ≡ ackingAt 0) → weigh (placeOf m) ≤ bonus (stepOf m)
+    go (inl q) = omega (arith, ap weigh (low-place m (omega arith) ∙ q), ap bonus q)
+    go (inr q) = omega (arith, ap weigh (acking-place m q), ap bonus q)
+
+-- DELIVERIES. Node j comes to a cell c that the row allows after it
+-- the turn after row d, where its sender is at step c: the row after it where the sender has asked from Holding
+abbrev turnAfter : ℕ → ℕ → ℕ
+turnAfter d c = rowAt d .next + cond (eqb c (sendingAt 0)) 1 0
+
+-- row 6, a filler of Answering, is followed by clearing, an End by granting or gaps, and any other row by a turn with no more left
+isTurn : ℕ → Bool
+isTurn d = not (eqb (rowAt d .kind) 1 || eqb d 6)
+
+follows : ℕ → ℕ → Bool
+follows d c =
+    ltb (turnAfter d c) 15 && (eqb c (turnAt (turnAfter d c) .step) && (everyIn (rowAt d .after) (turnAt (turnAfter d c) .room)
+    && (leb (turnAt (turnAfter d c) .turns) (rowAt d .turns) && leb (turnAt (turnAfter d c) .more) (rowAt d .more + bonus c))))
+
+all-follow : T (every (λ d. implies (isTurn d) (allOf (follows d) (rowAt d .sender))) 18)
+unfolding isTurn follows
+all-follow = tt
+
+rank-le : (a b c d n : ℕ) → a ≤ b → c ≤ d → a * n + c ≤ b * n + d
+rank-le a b c d n h l = omega (arith, mul-le-mul-right n h)
+
+module _ (n : ℕ) (f : ℕ → Cell) (w : ℕ) (here : w < n) (ms : (k : ℕ) → Marks (f k)) where
+  -- what holds of w and of the others holds of all
+  all-of : (P : ℕ → Type 0) → P w → ((k : ℕ) → k < n → k ≢ w → P k) → (k : ℕ) → k < n → P k
+  all-of P t u k l = go (eqb k w) refl
+    where
+      go : (b : Bool) → eqb k w ≡ b → P k
+      go true e = subst P (sym (eqb-true k w e)) t
+      go false e = u k l (eqb-false k w e)
+
+  abbrev Others : List ℕ → Type 0
+  Others l = (k : ℕ) → k < n → k ≢ w → mem (placeOf (f k .mode)) l ≡ true
+
+  turn-lands : (d : ℕ) → d < 18 → isTurn d ≡ true → mem (stepOf (f w .mode)) (rowAt d .sender) ≡ true → Others (rowAt d .after) → (a : BusyAt n f) × (busyRank n f a ≤ rowRank d (stepOf (f w .mode)) n)
+  unfolding follows
+  turn-lands d l t e u =
+      let c = stepOf (f w .mode) in
+      let z = all-mem (follows d) (rowAt d .sender) (implied _ _ (table-at (λ d. implies (isTurn d) (allOf (follows d) (rowAt d .sender))) 18 all-follow d l) t) c e in
+      let z0 = and-true (ltb (turnAfter d c) 15) _ z in
+      let z1 = and-true (eqb c (turnAt (turnAfter d c) .step)) _ (z0 .1) in
+      let z2 = and-true (everyIn (rowAt d .after) (turnAt (turnAfter d c) .room)) _ (z1 .1) in
+      let z3 = and-true (leb (turnAt (turnAfter d c) .turns) (rowAt d .turns)) _ (z2 .1) in (
+        talks (record {
+          t = turnAfter d c;
+          t-lt = ltb-true _ 15 (z0 .0);
+          w = w;
+          here = here;
+          talker = eqb-true _ _ (z1 .0);
+          room = λ k o q. mem-sub (rowAt d .after) (turnAt (turnAfter d c) .room) (z2 .0) (placeOf (f k .mode)) (u k o q);
+        }),
+        omega (arith, rank-le (turnAt (turnAfter d c) .turns) (rowAt d .turns) (turnAt (turnAfter d c) .more) (rowAt d .more + bonus c) n (leb-true _ _ (z3 .0)) (leb-true _ _ (z3 .1))),
+      )
+
+  -- row 6: the bus goes on clearing
+  clear-lands : mem (stepOf (f w .mode)) (rowAt 6 .sender) ≡ true → Others quiet → (a : BusyAt n f) × (busyRank n f a ≤ rowRank 6 (stepOf (f w .mode)) n)
+  clear-lands e u = (
+    clears
+        (all-of (λ k. mem (stepOf (f k .mode)) clearSteps ≡ true) (mem-sub (rowAt 6 .sender) clearSteps refl (stepOf (f w .mode)) e) (λ k z q. passive-steps quiet clearSteps refl refl (f k .mode) (u k z q)))
+        (some-at (acting f) n w here (acting-in (rowAt 6 .sender) refl (f w .mode) e)),
+    omega (arith, weigh-answering (f w .mode) e, total-one (weights f) w n here (λ k z q. weigh-quiet (f k .mode) (u k z q))),
+  )
+
+  -- an End: rows 5, 9 and 17. The nodes are done with the packet, its sender rests or awaits the acknowledgement
+  abbrev EndLands : ℕ → Type 0
+  EndLands r =
+      (some (pendings f) n ≡ true → (a : Stage Granting n f) × (rank Granting n f a ≤ r))
+      × (some (pendings f) n ≡ false → (a : Stage (Gapping 0) n f) × (rank (Gapping 0) n f a ≤ r))
+
+  owes-not : (k : ℕ) → f k .pending ≡ false → mem (placeOf (f k .mode)) packetRead ≡ true → mem (placeOf (f k .mode)) quiet ≡ true
+  owes-not k p e = implied _ _ (implied (mem (placeOf (f k .mode)) packetRead) _ (law-mode (λ p. implies (mem p packetRead) (implies (not (owing p)) (mem p quiet))) tt (f k .mode)) e) (ap not (sym (ms k .0) ∙ p))
+
+  to-gaps : (r : ℕ) → n ≤ r → mem (stepOf (f w .mode)) ended ≡ true → Others packetRead → some (pendings f) n ≡ false → (a : Stage (Gapping 0) n f) × (rank (Gapping 0) n f a ≤ r)
+  to-gaps r l e u p = (
+    record {
+      gap-lt = omega arith;
+      calm = all-of (λ k. mem (placeOf (f k .mode)) quiet ≡ true) (low-places ended quiet refl refl (f w .mode) e) (λ k z q. owes-not k (none-of (pendings f) n p k z) (u k z q));
+      past = λ k z q. absurd (omega arith);
+    },
+    omega arith,
+  )
+
+  -- the first packet's End: nodes may owe
+  first-end : mem (stepOf (f w .mode)) ended ≡ true → Others packetRead → EndLands (rowRank 5 (stepOf (f w .mode)) n)
+  first-end e u = (
+    (λ p. (
+      record { steps = all-of (λ k. mem (stepOf (f k .mode)) grantSteps ≡ true) (mem-sub ended grantSteps refl (stepOf (f w .mode)) e) (λ k z q. passive-steps packetRead grantSteps refl refl (f k .mode) (u k z q)); pends = p },
+      omega (arith, total-gap (weights f) n w (λ k. weigh-le (f k .mode)) here (weigh-quiet (f w .mode) (low-places ended quiet refl refl (f w .mode) e))),
+    )),
+    to-gaps (rowRank 5 (stepOf (f w .mode)) n) (omega arith) e u,
+  )
+
+  -- a later End: nobody owes
+  last-end : (r : ℕ) → n ≤ r → mem (stepOf (f w .mode)) ended ≡ true → Others waiting → EndLands r
+  last-end r l e u = (
+    (λ p. absurd (clash _ (lowest-of (pendings f) n 0 p) (free (lowest (pendings f) n 0) (lowest-lt (pendings f) n 0 p)))),
+    to-gaps r l e (λ k z q. mem-sub waiting packetRead refl (placeOf (f k .mode)) (u k z q)),
+  )
+    where
+      calm : (m : Mode) → mem (placeOf m) quiet ≡ true → owing (placeOf m) ≡ false
+      calm m h = not-true _ (implied _ _ (law-mode (λ p. implies (mem p quiet) (not (owing p))) tt m) h)
+
+      free : (k : ℕ) → k < n → f k .pending ≡ false
+      free = all-of (λ k. f k .pending ≡ false) (ms w .0 ∙ calm (f w .mode) (low-places ended quiet refl refl (f w .mode) e)) (λ k z q. ms k .0 ∙ calm (f k .mode) (mem-sub waiting quiet refl (placeOf (f k .mode)) (u k z q)))
+
+  end-lands : (d : ℕ) → d < 18 → eqb (rowAt d .kind) 1 ≡ true → mem (stepOf (f w .mode)) (rowAt d .sender) ≡ true → Others (rowAt d .after) → EndLands (rowRank d (stepOf (f w .mode)) n)
+  end-lands d l k e u = go (eqb d 5) refl
+    where
+      fact : (h : ℕ → Bool) → T (every (λ d. implies (eqb (rowAt d .kind) 1) (h d)) 18) → h d ≡ true
+      fact h t = implied _ _ (table-at (λ d. implies (eqb (rowAt d .kind) 1) (h d)) 18 t d l) k
+
+      at-end : mem (stepOf (f w .mode)) ended ≡ true
+      at-end = mem-sub (rowAt d .sender) ended (fact (λ d. everyIn (rowAt d .sender) ended) tt) (stepOf (f w .mode)) e
+
+      go : (b : Bool) → eqb d 5 ≡ b → EndLands (rowRank d (stepOf (f w .mode)) n)
+      go true q = subst (λ d. EndLands (rowRank d (stepOf (f w .mode)) n)) (sym (eqb-true d 5 q))
+          (first-end at-end (λ k z o. mem-sub (rowAt d .after) packetRead (fact (λ d. everyIn (rowAt d .after) packetRead) tt) (placeOf (f k .mode)) (u k z o)))
+      go false q = last-end (rowRank d (stepOf (f w .mode)) n) (omega (arith, mul-le-mul-right n (leb-true 1 (rowAt d .turns) (fact (λ d. leb 1 (rowAt d .turns)) tt)))) at-end
+          (λ k z o. mem-sub (rowAt d .after) waiting (implied (not (eqb d 5)) _ (fact (λ d. implies (not (eqb d 5)) (everyIn (rowAt d .after) waiting)) tt) (ap not q)) (placeOf (f k .mode)) (u k z o))
+
+-- node j, the next to hear row a, comes to a cell c that the row allows
+module _ (s : State) (w : ℕ) (g : Signal) (j : ℕ) (a : Delivery (s .n) (s .cell) w g j) (c : Cell) (ok : mem (placeOf (c .mode)) (rowAt (a .d) .after) ≡ true)
+    (ms : (k : ℕ) → Marks (upd (s .cell) j c k)) where
+  abbrev cells : ℕ → Cell
+  cells = upd (s .cell) j c
+
+  abbrev was : ℕ
+  was = left w j (s .n) + rowRank (a .d) (stepOf (s .cell w .mode)) (s .n)
+
+  same-w : cells w ≡ s .cell w
+  same-w = upd-other (s .cell) j c w (λ q. a .apart (sym q))
+
+  sends-on : mem (stepOf (cells w .mode)) (rowAt (a .d) .sender) ≡ true
+  sends-on = subst (λ c. mem (stepOf (c .mode)) (rowAt (a .d) .sender) ≡ true) (sym same-w) (a .sender)
+
+  same-rank : rowRank (a .d) (stepOf (cells w .mode)) (s .n) ≡ rowRank (a .d) (stepOf (s .cell w .mode)) (s .n)
+  same-rank = ap (λ c. rowRank (a .d) (stepOf (c .mode)) (s .n)) same-w
+
+  heard-it : (k : ℕ) → k < s .n → k ≢ w → k < nextOther w j → mem (placeOf (cells k .mode)) (rowAt (a .d) .after) ≡ true
+  heard-it k l q z =
+      at-upd≢ (λ k c. k < s .n → k ≢ w → k < nextOther w j → mem (placeOf (c .mode)) (rowAt (a .d) .after) ≡ true) (s .cell) j c k
+      (λ l q z. ok) (λ o l q z. a .after k l q (next-past w j k z o q)) l q z
+
+  to-hear : (k : ℕ) → k < s .n → k ≢ w → nextOther w j ≤ k → mem (placeOf (cells k .mode)) (rowAt (a .d) .before) ≡ true
+  to-hear k l q z =
+      let p : j < nextOther w j = next-past-j w j in
+      subst (λ c. mem (placeOf (c .mode)) (rowAt (a .d) .before) ≡ true) (sym (upd-other (s .cell) j c k (λ e. absurd (omega arith)))) (a .before k l q (omega arith))
+
+  goes-on : nextOther w j < s .n → Goes true was (Delivering w g (nextOther w j)) (s .n) cells
+  goes-on l = record {
+    stage = record { d = a .d; d-lt = a .d-lt; kind = a .kind; here = a .here; next-lt = l; apart = next-apart w j; sender = sends-on; before = to-hear; after = heard-it };
+    lower = λ e. omega (arith, same-rank, left-next w j (s .n) (a .next-lt) (a .here) (a .apart) l);
+  }
+
+  module _ (all : s .n ≤ nextOther w j) where
+    everyone : (k : ℕ) → k < s .n → k ≢ w → mem (placeOf (cells k .mode)) (rowAt (a .d) .after) ≡ true
+    everyone k l q = heard-it k l q (omega arith)
+
+    less : (q : ℕ) → q ≤ rowRank (a .d) (stepOf (cells w .mode)) (s .n) → q < was
+    less q l = omega (arith, same-rank, left-pos w j (s .n) (a .here) (a .next-lt) (a .apart))
+
+    ends-it : isEnd g ≡ true → (b : Bool) → some (pendings cells) (s .n) ≡ b → Goes true was (cond b Granting (Gapping 0)) (s .n) cells
+    ends-it e b p = go b p (end-lands (s .n) cells w (a .here) ms (a .d) (a .d-lt) (ap (λ k. eqb k 1) (sym (a .kind)) ∙ e) sends-on everyone)
+      where
+        go : (b : Bool) → some (pendings cells) (s .n) ≡ b → EndLands (s .n) cells w (a .here) ms (rowRank (a .d) (stepOf (cells w .mode)) (s .n)) → Goes true was (cond b Granting (Gapping 0)) (s .n) cells
+        go true p z = record { stage = z .0 p .0; lower = λ e. less _ (z .0 p .1) }
+        go false p z = record { stage = z .1 p .0; lower = λ e. less _ (z .1 p .1) }
+
+    frees-it : isEnd g ≡ false → Goes true was Busy (s .n) cells
+    unfolding isTurn
+    frees-it e = go (eqb (a .d) 6) refl
+      where
+        go : (b : Bool) → eqb (a .d) 6 ≡ b → Goes true was Busy (s .n) cells
+        go true q =
+            let z = clear-lands (s .n) cells w (a .here) ms (subst (λ d. mem (stepOf (cells w .mode)) (rowAt d .sender) ≡ true) (eqb-true (a .d) 6 q) sends-on)
+                (λ k l o. subst (λ d. mem (placeOf (cells k .mode)) (rowAt d .after) ≡ true) (eqb-true (a .d) 6 q) (everyone k l o)) in
+            record { stage = z .0; lower = λ e. less _ (subst (λ d. busyRank (s .n) cells (z .0) ≤ rowRank d (stepOf (cells w .mode)) (s .n)) (sym (eqb-true (a .d) 6 q)) (z .1)) }
+        go false q =
+            let z = turn-lands (s .n) cells w (a .here) ms (a .d) (a .d-lt) (ap not (neither _ _ (ap (λ k. eqb k 1) (sym (a .kind)) ∙ e) q)) sends-on everyone in
+            record { stage = z .0; lower = λ e. less _ (z .1) }
+
+  delivered-goes : Goes true was (onward (s .n) w g j (upd (pendings (s .cell)) j (c .pending))) (s .n) cells
+  delivered-goes =
+      pick-by (λ p. Goes true was p (s .n) cells) (ltb (nextOther w j) (s .n)) _ _ (λ e. goes-on (ltb-true _ _ e)) λ e.
+      let l = ltb-false (nextOther w j) (s .n) e in
+      pick-by (λ p. Goes true was p (s .n) cells) (isEnd g) _ _ (λ z. ends-it l z _ (some-agree (pendings cells) (upd (pendings (s .cell)) j (c .pending)) (s .n) (λ k l. upd-map (λ c. c .pending) (s .cell) j c k))) (frees-it l)
+
+passed-kind : (b : Bool) (g : Signal) → kindOf (passed b g) ≡ kindOf g
+passed-kind b Start = refl
+passed-kind b End = refl
+passed-kind b Prefix = refl
+passed-kind b Gap = refl
+passed-kind b Dhead = refl
+passed-kind b (Dest a) = refl
+passed-kind b (Header h c) = refl
+passed-kind b (Data d c) = refl
+passed-kind b (Ack a c) = refl
+
+-- A HOLDER GOES ON. Node i goes from step c, which is also its place, to step c′ at place e, and the bus stays: what the tables have to say for that
+record Shift (c c′ e : ℕ) : Type 0 where
+  no-rest : c ≢ P.rest
+  turn-on : T (every (λ t. implies (eqb (turnAt t .step) c) (ltb (suc t) 15 && (eqb (turnAt (suc t) .step) c′ && (everyIn (turnAt t .room) (turnAt (suc t) .room) && (eqb (turnAt (suc t) .turns) (turnAt t .turns) && ltb (turnAt (suc t) .more) (turnAt t .more)))))) 15)
+  not-room : T (every (λ t. not (mem c (turnAt t .room))) 15)
+  sends-on : T (every (λ d. implies (mem c (rowAt d .sender)) (mem c′ (rowAt d .sender))) 18)
+  not-row : T (every (λ d. not (mem c (rowAt d .before)) && not (mem c (rowAt d .after))) 18)
+  clears-on : implies (mem c clearSteps) (mem c′ clearSteps) ≡ true
+  grants-on : implies (mem c grantSteps) (mem c′ grantSteps) ≡ true
+  lighter : implies (mem c grantSteps) (ltb (weigh e) (weigh c)) ≡ true
+  poorer : bonus c′ < bonus c
+  not-quiet : mem c quiet ≡ false
+  acting-on : active e ≡ true
+
+responds : Shift P.answering (ackingAt 0) P.acking
+responds = record { no-rest = λ e. omega arith; turn-on = tt; not-room = tt; sends-on = tt; not-row = tt; clears-on = refl; grants-on = refl; lighter = refl; poorer = lit< tt; not-quiet = refl; acting-on = refl }
+
+asks : Shift P.holding (sendingAt 0) P.sending
+asks = record { no-rest = λ e. omega arith; turn-on = tt; not-room = tt; sends-on = tt; not-row = tt; clears-on = refl; grants-on = refl; lighter = refl; poorer = lit< tt; not-quiet = refl; acting-on = refl }
+
+module _ (n : ℕ) (f : ℕ → Cell) (i : ℕ) (l : i < n) (c c′ e : ℕ) (y : Shift c c′ e) (x : Cell)
+    (at-step : stepOf (f i .mode) ≡ c) (at-place : placeOf (f i .mode) ≡ c) (to-step : stepOf (x .mode) ≡ c′) (to-place : placeOf (x .mode) ≡ e) (pend : x .pending ≡ f i .pending) where
+  abbrev shifted : ℕ → Cell
+  shifted = upd f i x
+
+  lighter-sum : mem c grantSteps ≡ true → total (weights shifted) n < total (weights f) n
+  lighter-sum t = omega (arith, weights-upd f i x n l, ap weigh at-place, ap weigh to-place, ltb-true (weigh e) (weigh c) (implied (mem c grantSteps) _ (y .lighter) t))
+
+  in-steps : (k : List ℕ) → mem c′ k ≡ true → ((j : ℕ) → j < n → mem (stepOf (f j .mode)) k ≡ true) → (j : ℕ) → j < n → mem (stepOf (shifted j .mode)) k ≡ true
+  in-steps k t u j z = at-upd (λ j d. j < n → mem (stepOf (d .mode)) k ≡ true) f i x j (λ z. ap (λ c. mem c k) to-step ∙ t) (u j) z
+
+  -- the one node at step c is not among the others
+  sole-at : (w : ℕ) (k : List ℕ) → mem c k ≡ false → (i ≢ w → mem (placeOf (f i .mode)) k ≡ true) → w ≡ i
+  sole-at w k t u = go (eqb i w) refl
+    where
+      go : (b : Bool) → eqb i w ≡ b → w ≡ i
+      go true q = sym (eqb-true i w q)
+      go false q = clash _ (ap (λ c. mem c k) (sym at-place) ∙ u (eqb-false i w q)) t
+
+  shift : (p : Phase) (a : Stage p n f) → Goes true (rank p n f a) p n shifted
+  shift Idle a = absurd (y .no-rest (sym at-place ∙ a i l))
+  shift Busy (clears a u) =
+      let t : mem c clearSteps ≡ true = ap (λ c. mem c clearSteps) (sym at-step) ∙ a i l in
+      record {
+        stage = clears (in-steps clearSteps (implied (mem c clearSteps) _ (y .clears-on) t) a) (some-at (acting shifted) n i l (ap (λ d. active (placeOf (d .mode))) (upd-same f i x) ∙ ap active to-place ∙ y .acting-on));
+        lower = λ z. omega (arith, lighter-sum (mem-sub clearSteps grantSteps refl c t));
+      }
+  shift Busy (talks a) =
+      let q : a .w ≡ i = sole-at (a .w) (turnAt (a .t) .room) (not-true _ (table-at (λ t. not (mem c (turnAt t .room))) 15 (y .not-room) (a .t) (a .t-lt))) (a .room i l) in
+      let d : turnAt (a .t) .step ≡ c = sym (a .talker) ∙ ap (λ w. stepOf (f w .mode)) q ∙ at-step in
+      let z = implied _ _ (table-at (λ t. implies (eqb (turnAt t .step) c) (ltb (suc t) 15 && (eqb (turnAt (suc t) .step) c′ && (everyIn (turnAt t .room) (turnAt (suc t) .room) && (eqb (turnAt (suc t) .turns) (turnAt t .turns) && ltb (turnAt (suc t) .more) (turnAt t .more)))))) 15 (y .turn-on) (a .t) (a .t-lt)) (eq-eqb _ _ d) in
+      let z0 = and-true (ltb (suc (a .t)) 15) _ z in
+      let z1 = and-true (eqb (turnAt (suc (a .t)) .step) c′) _ (z0 .1) in
+      let z2 = and-true (everyIn (turnAt (a .t) .room) (turnAt (suc (a .t)) .room)) _ (z1 .1) in
+      let z3 = and-true (eqb (turnAt (suc (a .t)) .turns) (turnAt (a .t) .turns)) _ (z2 .1) in
+      record {
+        stage = talks (record {
+          t = suc (a .t);
+          t-lt = ltb-true (suc (a .t)) 15 (z0 .0);
+          w = i;
+          here = l;
+          talker = ap (λ d. stepOf (d .mode)) (upd-same f i x) ∙ to-step ∙ sym (eqb-true _ _ (z1 .0));
+          room = λ k o p. ap (λ d. mem (placeOf (d .mode)) (turnAt (suc (a .t)) .room)) (upd-other f i x k p)
+              ∙ mem-sub (turnAt (a .t) .room) (turnAt (suc (a .t)) .room) (z2 .0) (placeOf (f k .mode)) (a .room k o (λ r. p (r ∙ q)));
+        });
+        lower = λ z. less (eqb-true _ _ (z3 .0)) (ltb-true _ _ (z3 .1));
+      }
+    where
+      less : {p q r s : ℕ} → p ≡ q → r < s → p * n + r < q * n + s
+      less {p} {q} {r} {s} e h = rw e (omega arith)
+  shift (Delivering w g j) a =
+      let q : w ≡ i = is-w (ltb i j) refl in
+      let t : mem c (rowAt (a .d) .sender) ≡ true = ap (λ c. mem c (rowAt (a .d) .sender)) (sym at-step ∙ ap (λ k. stepOf (f k .mode)) (sym q)) ∙ a .sender in
+      let e′ : stepOf (shifted w .mode) ≡ c′ = ap (λ k. stepOf (shifted k .mode)) q ∙ ap (λ d. stepOf (d .mode)) (upd-same f i x) ∙ to-step in
+      record {
+        stage = record {
+          d = a .d;
+          d-lt = a .d-lt;
+          kind = a .kind;
+          here = a .here;
+          next-lt = a .next-lt;
+          apart = a .apart;
+          sender = ap (λ c. mem c (rowAt (a .d) .sender)) e′ ∙ implied _ _ (table-at (λ d. implies (mem c (rowAt d .sender)) (mem c′ (rowAt d .sender))) 18 (y .sends-on) (a .d) (a .d-lt)) t;
+          before = λ k z p o. ap (λ d. mem (placeOf (d .mode)) (rowAt (a .d) .before)) (upd-other f i x k (λ r. p (r ∙ sym q))) ∙ a .before k z p o;
+          after = λ k z p o. ap (λ d. mem (placeOf (d .mode)) (rowAt (a .d) .after)) (upd-other f i x k (λ r. p (r ∙ sym q))) ∙ a .after k z p o;
+        };
+        lower = λ z. omega (arith, ap bonus e′, ap (λ k. bonus (stepOf (f k .mode))) q, ap bonus at-step, y .poorer);
+      }
+    where
+      off : (not (mem c (rowAt (a .d) .before)) ≡ true) × (not (mem c (rowAt (a .d) .after)) ≡ true)
+      off = and-true _ _ (table-at (λ d. not (mem c (rowAt d .before)) && not (mem c (rowAt d .after))) 18 (y .not-row) (a .d) (a .d-lt))
+
+      is-w : (b : Bool) → ltb i j ≡ b → w ≡ i
+      is-w true r = sole-at w (rowAt (a .d) .after) (not-true _ (off .1)) (λ p. a .after i l p (ltb-true i j r))
+      is-w false r = sole-at w (rowAt (a .d) .before) (not-true _ (off .0)) (λ p. a .before i l p (ltb-false i j r))
+  shift Granting a =
+      let t : mem c grantSteps ≡ true = ap (λ c. mem c grantSteps) (sym at-step) ∙ a .steps i l in
+      record {
+        stage = record { steps = in-steps grantSteps (implied (mem c grantSteps) _ (y .grants-on) t) (a .steps); pends = some-agree (pendings shifted) (pendings f) n (λ k z. at-upd (λ k d. d .pending ≡ f k .pending) f i x k pend refl) ∙ a .pends };
+        lower = λ z. omega (arith, lighter-sum t);
+      }
+  shift (Gapping j) a = clash _ (ap (λ c. mem c quiet) (sym at-place) ∙ a .calm i l) (y .not-quiet)
+
+-- A SIGNAL IS PUT OUT. A clock of the node whose turn it is puts out a signal of kind q and leaves it at step e: the row that follows, by the tables; with k = 1 the row after it (Acking's closing Prefix)
+clocks : Bool → ℕ → ℕ → ℕ → Turn → Bool
+clocks fwd k q e t =
+    ltb (t .next + k) 18 && (eqb q (rowAt (t .next + k) .kind) && (mem e (rowAt (t .next + k) .sender) && (everyIn (t .room) (rowAt (t .next + k) .before)
+    && implies fwd (leb (suc (rowAt (t .next + k) .turns)) (t .turns) && leb (rowAt (t .next + k) .more + bonus e) (t .more)))))
+
+module _ (s : State) (v : Reach s) (i : ℕ) (l : i < s .n) where
+  -- row d starts from node i
+  starts-row : (fwd : Bool) (d r : ℕ) (g : Signal) (c : Cell) → d < 18 → kindOf g ≡ rowAt d .kind → mem (stepOf (c .mode)) (rowAt d .sender) ≡ true →
+      ((k : ℕ) → k < s .n → k ≢ i → mem (placeOf (s .cell k .mode)) (rowAt d .before) ≡ true) → (fwd ≡ true → s .n + rowRank d (stepOf (c .mode)) (s .n) ≤ r) →
+      Goes fwd r (Delivering i g (firstOther i)) (s .n) (upd (s .cell) i c)
+  starts-row fwd d r g c dl ki se ot le = record {
+    stage = record {
+      d = d;
+      d-lt = dl;
+      kind = ki;
+      here = l;
+      next-lt = first-lt i (s .n) (v .two);
+      apart = first-apart i;
+      sender = ap (λ x. mem (stepOf (x .mode)) (rowAt d .sender)) (upd-same (s .cell) i c) ∙ se;
+      before = λ k z p o. ap (λ x. mem (placeOf (x .mode)) (rowAt d .before)) (upd-other (s .cell) i c k p) ∙ ot k z p;
+      after = λ k z p o. absurd (first-none i k o p);
+    };
+    lower = λ e. omega (arith, le e, left-lt i (firstOther i) (s .n) (omega (arith, v .two)), ap (λ x. rowRank d (stepOf (x .mode)) (s .n)) (upd-same (s .cell) i c));
+  }
+
+  -- node i's turn, from step c
+  turn-puts : (fwd : Bool) (k c q e : ℕ) → T (every (λ t. implies (eqb (turnAt t .step) c) (clocks fwd k q e (turnAt t))) 15) → (a : Talk (s .n) (s .cell)) → active (placeOf (s .cell i .mode)) ≡ true → stepOf (s .cell i .mode) ≡ c →
+      (g : Signal) (x : Cell) → kindOf g ≡ q → stepOf (x .mode) ≡ e → Goes fwd (turnRank (a .t) (s .n)) (Delivering i g (firstOther i)) (s .n) (upd (s .cell) i x)
+  unfolding clocks
+  turn-puts fwd k c q e t a z st g x kq xe =
+      let w : i ≡ a .w = is-talker (s .n) (s .cell) a i l z in
+      let d = turnAt (a .t) .next + k in
+      let y = turn-fact (s .n) (s .cell) a c (ap (λ i. stepOf (s .cell i .mode)) (sym w) ∙ st) (clocks fwd k q e) t in
+      let y0 = and-true (ltb d 18) _ y in
+      let y1 = and-true (eqb q (rowAt d .kind)) _ (y0 .1) in
+      let y2 = and-true (mem e (rowAt d .sender)) _ (y1 .1) in
+      let y3 = and-true (everyIn (turnAt (a .t) .room) (rowAt d .before)) _ (y2 .1) in
+      starts-row fwd d (turnRank (a .t) (s .n)) g x (ltb-true d 18 (y0 .0)) (kq ∙ eqb-true _ _ (y1 .0)) (ap (λ c. mem c (rowAt d .sender)) xe ∙ y2 .0)
+      (λ k o p. mem-sub (turnAt (a .t) .room) (rowAt d .before) (y3 .0) (placeOf (s .cell k .mode)) (a .room k o (λ j. p (j ∙ sym w))))
+      (λ f. let b = and-true (leb (suc (rowAt d .turns)) (turnAt (a .t) .turns)) _ (implied fwd _ (y3 .1) f) in
+      omega (arith, ap bonus xe, rank-le (suc (rowAt d .turns)) (turnAt (a .t) .turns) (rowAt d .more + bonus e) (turnAt (a .t) .more) (s .n) (leb-true _ _ (b .0)) (leb-true _ _ (b .1))))
+
+  -- a step of Sending, or of Acking past its first, is no step of clearing
+  odd-clear : (k : ℕ) → mem (sendingAt k) clearSteps ≡ false
+  odd-clear k = rw (ne-eqb (31 + 2 * k) 0 (λ e. omega arith), ne-eqb (31 + 2 * k) 1 (λ e. omega arith), ne-eqb (31 + 2 * k) 15 (λ e. omega arith), ne-eqb (31 + 2 * k) 19 (λ e. omega arith), ne-eqb (31 + 2 * k) 22 (λ e. omega arith), ne-eqb (31 + 2 * k) 30 (λ e. omega arith))
+
+  even-clear : (k : ℕ) → 1 ≤ k → mem (ackingAt k) clearSteps ≡ false
+  even-clear k h = rw (ne-eqb (30 + 2 * k) 0 (λ e. omega arith), ne-eqb (30 + 2 * k) 1 (λ e. omega arith), ne-eqb (30 + 2 * k) 15 (λ e. omega arith), ne-eqb (30 + 2 * k) 19 (λ e. omega arith), ne-eqb (30 + 2 * k) 22 (λ e. omega arith), ne-eqb (30 + 2 * k) 30 (λ e. omega arith))
+
+  -- the last step of Sending is 5, and that of Acking 2
+  last-sending : (a : Talk (s .n) (s .cell)) (k : ℕ) → 5 ≤ k → turnAt (a .t) .step ≡ sendingAt k → k ≡ 5
+  last-sending a k h e = omega (arith, ltb-true (turnAt (a .t) .step) 42 (table-at (λ t. ltb (turnAt t .step) 42) 15 tt (a .t) (a .t-lt)))
+
+  last-acking : (a : Talk (s .n) (s .cell)) (k : ℕ) → 2 ≤ k → turnAt (a .t) .step ≡ ackingAt k → k ≡ 2
+  last-acking a k h e =
+      let odds = sendingAt 0 ∷ sendingAt 1 ∷ sendingAt 2 ∷ sendingAt 3 ∷ sendingAt 4 ∷ sendingAt 5 ∷ [] in
+      let z = or-true (mem (turnAt (a .t) .step) odds) _ (table-at (λ t. mem (turnAt t .step) odds || leb (turnAt t .step) 34) 15 tt (a .t) (a .t-lt)) (ap (λ c. mem c odds) e ∙ not-odd) in
+      omega (arith, leb-true (turnAt (a .t) .step) 34 z)
+    where
+      not-odd : mem (ackingAt k) (sendingAt 0 ∷ sendingAt 1 ∷ sendingAt 2 ∷ sendingAt 3 ∷ sendingAt 4 ∷ sendingAt 5 ∷ []) ≡ false
+      not-odd = rw (ne-eqb (30 + 2 * k) 31 (λ e. omega arith), ne-eqb (30 + 2 * k) 33 (λ e. omega arith), ne-eqb (30 + 2 * k) 35 (λ e. omega arith), ne-eqb (30 + 2 * k) 37 (λ e. omega arith), ne-eqb (30 + 2 * k) 39 (λ e. omega arith), ne-eqb (30 + 2 * k) 41 (λ e. omega arith))
+
+  -- what node i puts out in its turn, and while the bus clears; x is its cell then
+  abbrev after-put : Mode → Signal → Cell
+  after-put m g = setMode m (setHolder (not (isEnd g)) (s .cell i))
+
+  abbrev Put : Bool → ℕ → Signal → Mode → Type 0
+  Put fwd r g m = Goes fwd r (Delivering i g (firstOther i)) (s .n) (upd (s .cell) i (after-put m g))
+
+  puts-turn : (a : Talk (s .n) (s .cell)) (m : Mode) (g : Signal) (m′ : Mode) (r : Report) → s .cell i .mode ≡ m → Puts i (s .cell i .sending) m g m′ r → Put (not (isAnswering m || isHolding m)) (turnRank (a .t) (s .n)) g m′
+  unfolding clocks
+  puts-turn a m g m′ r e start = turn-puts true 0 (sendingAt 0) 0 (sendingAt 1) tt a (ap (λ m. active (placeOf m)) e) (ap stepOf e) g (after-put m′ g) refl refl
+  puts-turn a m g m′ r e dhead = turn-puts true 0 (sendingAt 1) 4 (sendingAt 2) tt a (ap (λ m. active (placeOf m)) e) (ap stepOf e) g (after-put m′ g) refl refl
+  puts-turn a m g m′ r e dest = turn-puts true 0 (sendingAt 2) 5 (sendingAt 3) tt a (ap (λ m. active (placeOf m)) e) (ap stepOf e) g (after-put m′ g) refl refl
+  puts-turn a m g m′ r e header = turn-puts true 0 (sendingAt 3) 6 (sendingAt 4) tt a (ap (λ m. active (placeOf m)) e) (ap stepOf e) g (after-put m′ g) refl refl
+  puts-turn a m g m′ r e datum = turn-puts true 0 (sendingAt 4) 7 (sendingAt 5) tt a (ap (λ m. active (placeOf m)) e) (ap stepOf e) g (after-put m′ g) refl refl
+  puts-turn a m g m′ r e (end-all {k = k} h u) =
+      let z : active (placeOf (s .cell i .mode)) ≡ true = ap (λ m. active (placeOf m)) e in
+      let w = is-talker (s .n) (s .cell) a i l z in
+      let q : k ≡ 5 = last-sending a k h (sym (a .talker) ∙ ap (λ i. stepOf (s .cell i .mode)) (sym w) ∙ ap stepOf e) in
+      turn-puts true 0 (sendingAt 5) 1 P.rest tt a z (ap stepOf e ∙ ap sendingAt q) g (after-put m′ g) refl refl
+  puts-turn a m g m′ r e (end-one {k = k} h u) =
+      let z : active (placeOf (s .cell i .mode)) ≡ true = ap (λ m. active (placeOf m)) e in
+      let w = is-talker (s .n) (s .cell) a i l z in
+      let q : k ≡ 5 = last-sending a k h (sym (a .talker) ∙ ap (λ i. stepOf (s .cell i .mode)) (sym w) ∙ ap stepOf e) in
+      turn-puts true 0 (sendingAt 5) 1 P.awaitAck tt a z (ap stepOf e ∙ ap sendingAt q) g (after-put m′ g) refl refl
+  puts-turn a m g m′ r e filler = absurd (no-turn (s .n) (s .cell) a P.answering tt (ap (λ i. stepOf (s .cell i .mode)) (sym (is-talker (s .n) (s .cell) a i l (ap (λ m. active (placeOf m)) e))) ∙ ap stepOf e))
+  puts-turn a m g m′ r e ack-start = absurd (no-turn (s .n) (s .cell) a (ackingAt 0) tt (ap (λ i. stepOf (s .cell i .mode)) (sym (is-talker (s .n) (s .cell) a i l (ap (λ m. active (placeOf m)) e))) ∙ ap stepOf e))
+  puts-turn a m g m′ r e ack-body = turn-puts true 0 (ackingAt 1) 8 (ackingAt 2) tt a (ap (λ m. active (placeOf m)) e) (ap stepOf e) g (after-put m′ g) refl refl
+  puts-turn a m g m′ r e (ack-hold {k = k} h) =
+      let z : active (placeOf (s .cell i .mode)) ≡ true = ap (λ m. active (placeOf m)) e in
+      let w = is-talker (s .n) (s .cell) a i l z in
+      let q : k ≡ 2 = last-acking a k h (sym (a .talker) ∙ ap (λ i. stepOf (s .cell i .mode)) (sym w) ∙ ap stepOf e) in
+      turn-puts true 1 (ackingAt 2) 2 P.holding tt a z (ap stepOf e ∙ ap ackingAt q) g (after-put m′ g) refl refl
+  puts-turn a m g m′ r e (ack-end {k = k} h) =
+      let z : active (placeOf (s .cell i .mode)) ≡ true = ap (λ m. active (placeOf m)) e in
+      let w = is-talker (s .n) (s .cell) a i l z in
+      let q : k ≡ 2 = last-acking a k h (sym (a .talker) ∙ ap (λ i. stepOf (s .cell i .mode)) (sym w) ∙ ap stepOf e) in
+      turn-puts true 0 (ackingAt 2) 1 P.rest tt a z (ap stepOf e ∙ ap ackingAt q) g (after-put m′ g) refl refl
+  puts-turn a m g m′ r e holds-on = turn-puts false 0 P.holding 2 P.holding tt a (ap (λ m. active (placeOf m)) e) (ap stepOf e) g (after-put m′ g) refl refl
+
+  module _ (a : (k : ℕ) → k < s .n → mem (stepOf (s .cell k .mode)) clearSteps ≡ true) (o : others (holders (s .cell)) i (s .n) ≡ false) where
+    other-step : {A : Type 0} (m : Mode) → s .cell i .mode ≡ m → mem (stepOf m) clearSteps ≡ false → A
+    other-step {A} m e t = clash _ (a i l) (ap (λ m. mem (stepOf m) clearSteps) e ∙ t)
+
+    puts-clear : (m : Mode) (g : Signal) (m′ : Mode) (r : Report) → s .cell i .mode ≡ m → Puts i (s .cell i .sending) m g m′ r → Put (not (isAnswering m || isHolding m)) (clearRank (s .n) (s .cell)) g m′
+    puts-clear m g m′ r e start = other-step m e refl
+    puts-clear m g m′ r e dhead = other-step m e refl
+    puts-clear m g m′ r e dest = other-step m e refl
+    puts-clear m g m′ r e header = other-step m e refl
+    puts-clear m g m′ r e datum = other-step m e refl
+    puts-clear m g m′ r e (end-all {k = k} h u) = other-step m e (odd-clear k)
+    puts-clear m g m′ r e (end-one {k = k} h u) = other-step m e (odd-clear k)
+    puts-clear m g m′ r e filler = starts-row false 6 _ g (after-put m′ g) (lit< tt) refl refl (sole-quiet s (v .marks) a i o) never
+    puts-clear m g m′ r e ack-start = starts-row true 7 _ g (after-put m′ g) (lit< tt) refl refl (sole-quiet s (v .marks) a i o) (λ z. omega arith)
+    puts-clear m g m′ r e ack-body = other-step m e refl
+    puts-clear m g m′ r e (ack-hold {k = k} h) = other-step m e (even-clear k (omega arith))
+    puts-clear m g m′ r e (ack-end {k = k} h) = other-step m e (even-clear k (omega arith))
+    puts-clear m g m′ r e holds-on = other-step m e refl
+
+    -- a spurious holder ends its holding
+    frees-goes : placeOf (s .cell i .mode) ≡ P.spurious → Goes true (clearRank (s .n) (s .cell)) (Gapping 0) (s .n) (upd (s .cell) i (setMode Rest (setHolder false (s .cell i))))
+    frees-goes p = record {
+      stage = record {
+        gap-lt = omega arith;
+        calm = λ k z. at-upd≢ (λ k c. k < s .n → mem (placeOf (c .mode)) quiet ≡ true) (s .cell) i _ k (λ z. refl) (λ q z. sole-quiet s (v .marks) a i o k z q) z;
+        past = λ k z q. absurd (omega arith);
+      };
+      lower = λ z. omega arith;
+    }
+
+  -- other holders are left
+  frees-one : ((k : ℕ) → k < s .n → mem (stepOf (s .cell k .mode)) clearSteps ≡ true) → others (holders (s .cell)) i (s .n) ≡ true → placeOf (s .cell i .mode) ≡ P.spurious →
+      Goes true (clearRank (s .n) (s .cell)) Busy (s .n) (upd (s .cell) i (setMode Rest (setHolder false (s .cell i))))
+  frees-one a o p = record {
+    stage = clears (λ k z. at-upd (λ k c. k < s .n → mem (stepOf (c .mode)) clearSteps ≡ true) (s .cell) i x k (λ z. refl) (a k) z)
+        (some-agree (acting (upd (s .cell) i x)) (upd (holders (s .cell)) i false) (s .n) (λ k z. upd-map (λ c. active (placeOf (c .mode))) (s .cell) i x k ∙ at-upd≢ (λ k b. upd (acting (s .cell)) i false k ≡ b) (holders (s .cell)) i false k (upd-same (acting (s .cell)) i false) (λ q. upd-other (acting (s .cell)) i false k q ∙ sym (v .marks k .1))) ∙ o);
+    lower = λ z. omega (arith, weights-upd (s .cell) i x (s .n) l, ap weigh p);
+  }
+    where
+      x : Cell
+      x = setMode Rest (setHolder false (s .cell i))
+
+-- THE WAYS
+-- a fact about what is left, in a phase that is known
+on-phase : (n : ℕ) (f : ℕ → Cell) (P : ℕ → Type 0) (p q : Phase) → p ≡ q → (a : Stage p n f) → ((b : Stage q n f) → P (rank q n f b)) → P (rank p n f a)
+on-phase n f P p q e a = subst (λ x. ((b : Stage x n f) → P (rank x n f b)) → P (rank p n f a)) e (λ h. h a)
+
+module _ (s : State) (v : Reach s) where
+  abbrev now : ℕ
+  now = rank (s .phase) (s .n) (s .cell) (v .stage)
+
+  -- the one cell that changes keeps its mode and its pending mark
+  unmoved : (fwd : Bool) (i : ℕ) (c : Cell) → c .mode ≡ s .cell i .mode → c .pending ≡ s .cell i .pending → fwd ≡ false → Goes fwd now (s .phase) (s .n) (upd (s .cell) i c)
+  unmoved fwd i c e q f =
+      same-goes (s .n) (s .cell) (upd (s .cell) i c) (λ k. at-upd (λ k c. c .mode ≡ s .cell k .mode) (s .cell) i c k e refl) (λ k. at-upd (λ k c. c .pending ≡ s .cell k .pending) (s .cell) i c k q refl)
+      fwd now (s .phase) (record { stage = v .stage; lower = λ z. clash fwd z f })
+
+  won-goes : (i : ℕ) (c : Cell) → i < s .n → s .phase ≡ Idle → c .mode ≡ Sending 0 → Goes false now Busy (s .n) (upd (s .cell) i c)
+  won-goes i c l q e = record {
+    stage = talks (record {
+      t = 0;
+      t-lt = lit< tt;
+      w = i;
+      here = l;
+      talker = ap (λ d. stepOf (d .mode)) (upd-same (s .cell) i c) ∙ ap stepOf e;
+      room = λ k z o. ap (λ d. mem (placeOf (d .mode)) (P.rest ∷ [])) (upd-other (s .cell) i c k o) ∙ ap (λ p. mem p (P.rest ∷ [])) (subst (λ p. Stage p (s .n) (s .cell)) q (v .stage) k z);
+    });
+    lower = never;
+  }
+
+  granted-goes : (i : ℕ) → i < s .n → s .cell i .pending ≡ true → (a : GrantingAt (s .n) (s .cell)) → (c : Cell) → c .mode ≡ granted (s .cell i .mode) → c .pending ≡ false →
+      Goes true (clearRank (s .n) (s .cell)) (cond (others (pendings (s .cell)) i (s .n)) Granting Busy) (s .n) (upd (s .cell) i c)
+  granted-goes i l p a c e q =
+      pick-by (λ x. Goes true (clearRank (s .n) (s .cell)) x (s .n) cells) (others (pendings (s .cell)) i (s .n)) _ _
+      (λ o. record { stage = record { steps = in-grant; pends = some-agree (pendings cells) (upd (pendings (s .cell)) i false) (s .n) pend-upd ∙ o }; lower = λ z. omega (arith, sum) })
+      (λ o. record { stage = clears (clear o) (some-at (acting cells) (s .n) i l (ap (λ d. active (placeOf (d .mode))) (upd-same (s .cell) i c) ∙ ap (λ m. active (placeOf m)) e ∙ g .holds)); lower = λ z. omega (arith, sum) })
+    where
+      cells : ℕ → Cell
+      cells = upd (s .cell) i c
+
+      x : Mode
+      x = s .cell i .mode
+
+      g : Granted x
+      g = is-granted x (owes-whole x (a .steps i l) (sym (v .marks i .0) ∙ p))
+
+      at-it : (l : List ℕ) → everyIn (P.answering ∷ P.spurious ∷ []) l ≡ true → mem (stepOf (c .mode)) l ≡ true
+      at-it l t = ap (λ m. mem (stepOf m) l) e ∙ mem-sub (P.answering ∷ P.spurious ∷ []) l t (stepOf (granted x)) (g .step)
+
+      sum : total (weights cells) (s .n) + 1 ≡ total (weights (s .cell)) (s .n)
+      sum = omega (arith, weights-upd (s .cell) i c (s .n) l, ap (λ m. weigh (placeOf m)) e, g .lighter)
+
+      pend-upd : (k : ℕ) → k < s .n → pendings cells k ≡ upd (pendings (s .cell)) i false k
+      pend-upd k z = upd-map (λ c. c .pending) (s .cell) i c k ∙ ap (λ b. upd (pendings (s .cell)) i b k) q
+
+      in-grant : (k : ℕ) → k < s .n → mem (stepOf (cells k .mode)) grantSteps ≡ true
+      in-grant k z = at-upd (λ k c. k < s .n → mem (stepOf (c .mode)) grantSteps ≡ true) (s .cell) i c k (λ z. at-it grantSteps refl) (a .steps k) z
+
+      clear : others (pendings (s .cell)) i (s .n) ≡ false → (k : ℕ) → k < s .n → mem (stepOf (cells k .mode)) clearSteps ≡ true
+      clear o k z = at-upd≢ (λ k c. k < s .n → mem (stepOf (c .mode)) clearSteps ≡ true) (s .cell) i c k (λ z. at-it clearSteps refl)
+          (λ q z. owes-no (s .cell k .mode) (a .steps k z) (sym (v .marks k .0) ∙ others-off (pendings (s .cell)) (s .n) i o k z q)) z
+
+  gapped-goes : (j : ℕ) (a : GappingAt (s .n) (s .cell) j) → Goes true (s .n - j) (cond (ltb (suc j) (s .n)) (Gapping (suc j)) Idle) (s .n) (upd (s .cell) j (setMode (hears j (s .cell j .mode) Gap .mode) (s .cell j)))
+  gapped-goes j a =
+      pick-by (λ x. Goes true (s .n - j) x (s .n) cells) (ltb (suc j) (s .n)) _ _
+      (λ e. let l = ltb-true (suc j) (s .n) e in record { stage = record { gap-lt = l; calm = still; past = low }; lower = λ z. omega arith })
+      (λ e. let l = ltb-false (suc j) (s .n) e in record { stage = λ k z. low k z (omega arith); lower = λ z. omega (arith, a .gap-lt) })
+    where
+      x : Cell
+      x = setMode (hears j (s .cell j .mode) Gap .mode) (s .cell j)
+
+      cells : ℕ → Cell
+      cells = upd (s .cell) j x
+
+      rested : placeOf (hears j (s .cell j .mode) Gap .mode) ≡ P.rest
+      rested = eqb-true _ _ (implied (mem (placeOf (s .cell j .mode)) quiet) _ (law (λ y p c. implies (eqb c S.gap) (implies (mem p quiet) (eqb (y .place) P.rest))) tt j (s .cell j .mode) Gap) (a .calm j (a .gap-lt)))
+
+      low : (k : ℕ) → k < s .n → k < suc j → placeOf (cells k .mode) ≡ P.rest
+      low k l z = at-upd≢ (λ k c. k < s .n → k < suc j → placeOf (c .mode) ≡ P.rest) (s .cell) j x k (λ l z. rested) (λ q l z. a .past k l (omega arith)) l z
+
+      still : (k : ℕ) → k < s .n → mem (placeOf (cells k .mode)) quiet ≡ true
+      still k l = at-upd (λ k c. k < s .n → mem (placeOf (c .mode)) quiet ≡ true) (s .cell) j x k (λ l. ap (λ p. mem p quiet) rested) (a .calm k) l
+
+  -- what arrives is of the same kind as what was put out
+  same-kind : (b : Bool) (y : Way) (g t : Signal) (c : Bool) → Arrives b y g t c → kindOf t ≡ kindOf g
+  same-kind b y g t c passes = passed-kind b g
+  same-kind b y g t c (redirects e) = refl
+  same-kind b y g t c bad-header = refl
+  same-kind b y g t c bad-data = refl
+  same-kind b y g t c bad-ack = refl
+
+  moves-on : (m : Move) (i : ℕ) (r : Report) (p : Phase) (c : Cell) (x : Clears) → i < s .n → Effect s m i (does r p c x) → Goes (forward s m) now p (s .n) (upd (s .cell) i c)
+  moves-on m i r p c x l (waits e f) = unmoved _ i c refl refl (ap (λ p. eqb p P.holding) e)
+  moves-on m i r p c x l (replies e) =
+      let g = shift (s .n) (s .cell) i l P.holding (sendingAt 0) P.sending asks c (ap stepOf e) (ap placeOf e) refl refl refl (s .phase) (v .stage) in record { stage = g .stage; lower = λ z. g .lower refl }
+  moves-on m i r p c x l (wins q e f w) = won-goes i c l q refl
+  moves-on m i r p c x l loses = unmoved _ i c refl refl refl
+  moves-on m i r p c x l (gives e) = shift (s .n) (s .cell) i l P.answering (ackingAt 0) P.acking responds c (ap stepOf e) (ap placeOf e) refl refl refl (s .phase) (v .stage)
+  moves-on m i r p c x l (puts {g = g} {m = m′} q h o y) = on-phase (s .n) (s .cell) (λ z. Goes (forward s m) z p (s .n) (upd (s .cell) i c)) (s .phase) Busy q (v .stage) go
+    where
+      go : (b : BusyAt (s .n) (s .cell)) → Goes (not (isAnswering (s .cell i .mode) || isHolding (s .cell i .mode))) (busyRank (s .n) (s .cell) b) (Delivering i g (firstOther i)) (s .n) (upd (s .cell) i (setMode m′ (setHolder (not (isEnd g)) (s .cell i))))
+      go (talks a) = puts-turn s v i l a (s .cell i .mode) g m′ r refl y
+      go (clears a u) = puts-clear s v i l a o (s .cell i .mode) g m′ r refl y
+  moves-on m i r p c x l (frees q h e) = on-phase (s .n) (s .cell) (λ z. Goes (forward s m) z p (s .n) (upd (s .cell) i c)) (s .phase) Busy q (v .stage) (λ b. forward-it (go b))
+    where
+      go : (b : BusyAt (s .n) (s .cell)) → Goes true (busyRank (s .n) (s .cell) b) (cond (others (holders (s .cell)) i (s .n)) Busy (Gapping 0)) (s .n) (upd (s .cell) i (setMode Rest (setHolder false (s .cell i))))
+      go (talks a) = absurd (no-turn (s .n) (s .cell) a P.spurious tt (ap (λ i. stepOf (s .cell i .mode)) (sym (is-talker (s .n) (s .cell) a i l (ap (λ m. active (placeOf m)) e))) ∙ ap stepOf e))
+      go (clears a u) = pick-by (λ z. Goes true (clearRank (s .n) (s .cell)) z (s .n) (upd (s .cell) i (setMode Rest (setHolder false (s .cell i))))) (others (holders (s .cell)) i (s .n)) _ _ (λ o. frees-one s v i l a o (ap placeOf e)) (λ o. frees-goes s v i l a o (ap placeOf e))
+
+      forward-it : {z : ℕ} {p : Phase} {f : ℕ → Cell} → Goes true z p (s .n) f → Goes (not (isAnswering (s .cell i .mode) || isHolding (s .cell i .mode))) z p (s .n) f
+      forward-it {z} {p} {f} g = record { stage = g .stage; lower = λ e. g .lower refl }
+  moves-on m i r p c x l (arrives {v = y} {w = w} {g = g} {t = t} {b = b} q z) = on-phase (s .n) (s .cell) (λ z. Goes true z p (s .n) (upd (s .cell) i c)) (s .phase) (Delivering w g i) q (v .stage) λ a.
+      delivered-goes s w g i a c (heard-lands (a .d) (a .d-lt) i (s .cell i .mode) t (same-kind _ y g t b z ∙ a .kind) (a .before i (a .next-lt) (a .apart) (omega arith))) (λ k. at-upd (λ k c. Marks c) (s .cell) i c k (own-marks s v m i r p c x (arrives q z)) (v .marks k))
+  moves-on m i r p c x l (drops {w = w} {g = g} q e) = on-phase (s .n) (s .cell) (λ z. Goes true z p (s .n) (upd (s .cell) i c)) (s .phase) (Delivering w g i) q (v .stage) λ a.
+      delivered-goes s w g i a c (mem-sub (rowAt (a .d) .before) (rowAt (a .d) .after) (lost-lands (a .d) (a .d-lt) (subst (λ q. leb 6 q ≡ true) (a .kind) e)) (placeOf (s .cell i .mode)) (a .before i (a .next-lt) (a .apart) (omega arith)))
+      (λ k. at-upd (λ k c. Marks c) (s .cell) i c k (v .marks i) (v .marks k))
+  moves-on m i r p c x l (grants q e z) = on-phase (s .n) (s .cell) (λ z. Goes true z p (s .n) (upd (s .cell) i c)) (s .phase) Granting q (v .stage) λ a.
+      granted-goes i l (subst (λ i. s .cell i .pending ≡ true) z (lowest-of (pendings (s .cell)) (s .n) 0 e)) a c refl refl
+  moves-on m i r p c x l (grants-none q e) = on-phase (s .n) (s .cell) (λ z. Goes true z p (s .n) (upd (s .cell) i c)) (s .phase) Granting q (v .stage) λ a. clash _ (a .pends) e
+  moves-on m i r p c x l (gaps q) = on-phase (s .n) (s .cell) (λ z. Goes true z p (s .n) (upd (s .cell) i c)) (s .phase) (Gapping i) q (v .stage) (gapped-goes i)
+  moves-on m i r p c x l (resets q) = unmoved _ i c refl refl refl
+
+  -- an accepted action keeps what every reached state has, and a forward one leaves less to do
+  pub effect-reach : (m : Move) (i : ℕ) (r : Report) (p : Phase) (c : Cell) (x : Clears) → i < s .n → Effect s m i (does r p c x) →
+      (u : Reach (cleared x (moved s p i c))) × (forward s m ≡ true → rank (cleared x (moved s p i c) .phase) (cleared x (moved s p i c) .n) (cleared x (moved s p i c) .cell) (u .stage) < now)
+  effect-reach m i r p c x l y =
+      let g = cleared-goes x (moved s p i c) (forward s m) now (moves-on m i r p c x l y) in
+      (record { two = subst (λ n. 2 ≤ n) (sym (cleared-n x (moved s p i c))) (v .two); marks = marks-kept s v m i r p c x y; stage = g .stage }, g .lower)
