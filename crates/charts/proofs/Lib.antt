@@ -6,3 +6,12 @@ pub mod Stages
 pub mod Reach
 pub mod Sums
 pub mod Progress
+pub mod Ends
+pub mod Open
+pub mod Books
+pub mod Tally
+pub mod Stretches
+pub mod Validity
+pub mod Beyond
+pub mod Views
+pub mod Cases

@@ -1,10 +1,10 @@
 -- Modes by their places, and the reception chart by places and classes: `key` says once that what a node comes to goes by the place of its mode and the class of the signal,
 -- so that a rule of the chart is one test, computed over 23 × 14 pairs (`law`).
 use mathlib.Core.Path.{_≡_, refl, sym, ap, subst, _∙_}
-use mathlib.Core.Bool.{Bool, true, false, cond, _&&_, _||_, not, Bool·beq}
+use mathlib.Core.Bool.{Bool, true, false, cond, _||_, not, Bool·beq}
 use mathlib.Core.List.{List, [], _∷_}
 use Prim.Native.Nat.{ℕ, _<_, _+_, _*_}
-use lib.Dec.{T, eqb, ltb, lit<}
+use lib.Dec.{T, eqb, lit<}
 use lib.ListN.{getD}
 use borrow.Author.Tests.{eqb-true, not-true}
 use Rattle.charts.specs.declared.Head.{Head}
@@ -23,7 +23,7 @@ use Rattle.charts.specs.Signals as S
 use Rattle.charts.specs.Signals.{classOf, isLine, closes}
 use Rattle.charts.specs.State.{every}
 use Rattle.charts.specs.Reception.{answer, hears}
-use Rattle.charts.proofs.Tools.{never, implies, is-true, implied, pick, beq-eq, everyPair, table-at, pairs-at, mem}
+use Rattle.charts.proofs.Tools.{implies, pick, beq-eq, everyPair, table-at, pairs-at, mem}
 
 -- the clauses from here to `place-lt` are printed by tools/places.py
 -- the step, acknowledgement, hold, header and datum that a mode remembers

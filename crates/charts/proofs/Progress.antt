@@ -1,20 +1,18 @@
 -- Every accepted action keeps marks and stage, and a forward one leaves less to do. One clause for each way.
-use mathlib.Core.Path.{_≡_, refl, sym, ap, ap₂, subst, _∙_}
+use mathlib.Core.Path.{_≡_, refl, sym, ap, subst, _∙_}
 use mathlib.Core.Logic.{_≢_, _⊎_, inl, inr}
-use mathlib.Core.Bool.{Bool, true, false, cond, _&&_, _||_, not, false≢true, true≢false}
+use mathlib.Core.Bool.{Bool, true, false, cond, _&&_, _||_, not, true≢false}
 use mathlib.Core.List.{List, [], _∷_}
 use native.Mathlib.Nat.{mul-le-mul-right}
-use Prim.Native.Nat.{ℕ, zero, suc, _<_, _≤_, _+_, _-_, _*_}
+use Prim.Native.Nat.{ℕ, suc, _<_, _≤_, _+_, _-_, _*_}
 use native.Mathlib.Omega.{arith}
 use lib.Dec.{T, eqb, ltb, leb, lit<}
-use lib.ListN.{getD}
 use borrow.Author.Tests.{eqb-true, eqb-false, ltb-true, ltb-false, eq-eqb, ne-eqb, leb-true, not-true, lt-leb}
 use Rattle.charts.specs.declared.Mode.{Mode}
-use Rattle.charts.specs.declared.Mode.the-variants.{Rest, AwaitAck, AckBody, AckEnd, Opened, Addressed, HeadOwn, HeadAll, BodyOwn, BodyAll, TailOwn, TailAll, Wait, Owed, Sending, Told, Answering, Acking, Holding, Spurious}
+use Rattle.charts.specs.declared.Mode.the-variants.{Rest, Sending, Answering, Spurious}
 use Rattle.charts.specs.declared.Signal.{Signal}
 use Rattle.charts.specs.declared.Signal.the-variants.{Start, End, Prefix, Gap, Dhead, Dest, Header, Data, Ack}
 use Rattle.charts.specs.declared.Report.{Report}
-use Rattle.charts.specs.declared.Report.the-variants as R
 use Rattle.charts.specs.declared.Packet.{Packet}
 use Rattle.charts.specs.declared.Phase.{Phase}
 use Rattle.charts.specs.declared.Phase.the-variants.{Idle, Busy, Delivering, Granting, Gapping}
@@ -23,22 +21,22 @@ use Rattle.charts.specs.declared.Clears.{Clears}
 use Rattle.charts.specs.declared.Clears.the-variants as C
 use Rattle.charts.specs.declared.Way.{Way}
 use Rattle.charts.specs.declared.Move.{Move}
-use Rattle.charts.specs.declared.Move.the-variants.{Request, Arbitrate, Respond, Clock, Carry, Grant, GapNext, Reset}
 use Rattle.charts.specs.Modes as P
 use Rattle.charts.specs.Modes.{placeOf, isAnswering, isHolding}
 use Rattle.charts.specs.Signals as S
-use Rattle.charts.specs.Signals.{kindOf, isStart, isEnd}
+use Rattle.charts.specs.Signals.{kindOf, isEnd}
 use Rattle.charts.specs.Reception.{hears}
 use Rattle.charts.specs.Arrivals.{passed}
 use Rattle.charts.specs.State.{State, setMode, setHolder, pendings, holders, upd, some, others, lowest, every, moved, cleared}
-use Rattle.charts.specs.Actions.{Outcome, does, firstOther, nextOther, onward, hearing, granted}
+use Rattle.charts.specs.Actions.{does, firstOther, nextOther, onward, granted}
 use Rattle.charts.specs.Demand.{forward}
-use Rattle.charts.proofs.Tools.{never, clash, implies, implied, and-true, both, neither, or-true, pick, pick-by, at-upd, at-upd≢, upd-same, upd-other, upd-map, none-of, some-at, some-agree, others-off, lowest-of, lowest-lt, table-at, mem, everyIn, mem-sub, mem-one, mem-two}
-use Rattle.charts.proofs.Places.{law, law-mode, owing, active, owes, acts, gap-owes, stepIn, stepOf, place-lt, sendingAt, ackingAt, mode-is}
+use Rattle.charts.proofs.Tools.{never, clash, implies, implied, and-true, neither, or-true, pick-by, at-upd, at-upd≢, upd-same, upd-other, upd-map, none-of, some-at, some-agree, others-off, lowest-of, lowest-lt, table-at, mem, everyIn, mem-sub, mem-two}
+use Rattle.charts.proofs.Places.{law, law-mode, owing, active, owes, acts, gap-owes, stepIn, stepOf, place-lt, sendingAt, ackingAt}
 use Rattle.charts.proofs.Ways.{Puts, start, dhead, dest, header, datum, end-all, end-one, filler, ack-start, ack-body, ack-hold, ack-end, holds-on, Arrives, passes, redirects, bad-header, bad-data, bad-ack, Effect, waits, replies, wins, loses, gives, puts, frees, arrives, drops, grants, grants-none, gaps, resets}
-use Rattle.charts.proofs.Stages.{Row, rowAt, Turn, turnAt, packetRead, quiet, waiting, ended, grantSteps, clearSteps, acting, Delivery, Talk, BusyAt, talks, clears, GrantingAt, GappingAt, Stage, weigh, weights, total, left, bonus, rowRank, turnRank, clearRank, busyRank, rank, heard-lands, lost-lands}
-use Rattle.charts.proofs.Reach.{Marks, Reach, low-places, low-place, step-place, is-passive, passive, passive-steps, is-talker, is-sender, turn-fact, no-turn, sole-quiet}
-use Rattle.charts.proofs.Sums.{total-le, total-gap, total-agree, total-one, weigh-le, weights-upd, next-apart, next-past, next-past-j, left-pos, left-lt, left-next, first-lt, first-apart, first-none}
+use Rattle.charts.proofs.Steps.{cleared-n}
+use Rattle.charts.proofs.Stages.{rowAt, Turn, turnAt, packetRead, quiet, waiting, ended, grantSteps, clearSteps, acting, Delivery, Talk, BusyAt, talks, clears, GrantingAt, GappingAt, Stage, weigh, weights, total, left, bonus, rowRank, turnRank, clearRank, busyRank, rank, heard-lands, lost-lands}
+use Rattle.charts.proofs.Reach.{Marks, Reach, low-places, low-place, step-place, passive-steps, is-talker, turn-fact, no-turn, sole-quiet}
+use Rattle.charts.proofs.Sums.{total-gap, total-agree, total-one, weigh-le, weights-upd, next-apart, next-past, next-past-j, left-pos, left-lt, left-next, first-lt, first-apart, first-none}
 
 -- an action leads to a stage; a forward one to a stage with less left than r
 pub record Goes (fwd : Bool) (r : ℕ) (p : Phase) (n : ℕ) (f : ℕ → Cell) : Type 0 where
@@ -86,11 +84,6 @@ cleared-goes : (x : Clears) (t : State) (fwd : Bool) (r : ℕ) → Goes fwd r (t
 cleared-goes C.Nothing t fwd r a = a
 cleared-goes C.Misled t fwd r a = same-goes (t .n) (t .cell) (cleared C.Misled t .cell) (λ k. refl) (λ k. refl) fwd r (t .phase) a
 cleared-goes C.Won t fwd r a = same-goes (t .n) (t .cell) (cleared C.Won t .cell) (λ k. refl) (λ k. refl) fwd r (t .phase) a
-
-pub cleared-n : (x : Clears) (t : State) → cleared x t .n ≡ t .n
-cleared-n C.Nothing t = refl
-cleared-n C.Misled t = refl
-cleared-n C.Won t = refl
 
 cleared-marks : (x : Clears) (t : State) → ((k : ℕ) → Marks (t .cell k)) → (k : ℕ) → Marks (cleared x t .cell k)
 cleared-marks C.Nothing t m k = m k
@@ -192,7 +185,7 @@ all-mem h (x ∷ l) t c e = go (eqb c x) refl (all-mem h l (and-true (h x) _ t .
 abbrev actingStep : ℕ → Bool
 actingStep c = leb 30 c || active c
 
-acting-step : (m : Mode) → actingStep (stepOf m) ≡ true → active (placeOf m) ≡ true
+pub acting-step : (m : Mode) → actingStep (stepOf m) ≡ true → active (placeOf m) ≡ true
 acting-step m = go (eqb (placeOf m) P.sending) (eqb (placeOf m) P.acking) refl refl
   where
     go : (b c : Bool) → eqb (placeOf m) P.sending ≡ b → eqb (placeOf m) P.acking ≡ c → actingStep (cond b (sendingAt (stepIn m)) (cond c (ackingAt (stepIn m)) (placeOf m))) ≡ true → active (placeOf m) ≡ true
@@ -521,6 +514,13 @@ module _ (n : ℕ) (f : ℕ → Cell) (i : ℕ) (l : i < n) (c c′ e : ℕ) (y 
       }
   shift (Gapping j) a = clash _ (ap (λ c. mem c quiet) (sym at-place) ∙ a .calm i l) (y .not-quiet)
 
+-- a step of Sending, or of Acking past its first, is no step of clearing
+pub odd-clear : (k : ℕ) → mem (sendingAt k) clearSteps ≡ false
+odd-clear k = rw (ne-eqb (31 + 2 * k) 0 (λ e. omega arith), ne-eqb (31 + 2 * k) 1 (λ e. omega arith), ne-eqb (31 + 2 * k) 15 (λ e. omega arith), ne-eqb (31 + 2 * k) 19 (λ e. omega arith), ne-eqb (31 + 2 * k) 22 (λ e. omega arith), ne-eqb (31 + 2 * k) 30 (λ e. omega arith))
+
+pub even-clear : (k : ℕ) → 1 ≤ k → mem (ackingAt k) clearSteps ≡ false
+even-clear k h = rw (ne-eqb (30 + 2 * k) 0 (λ e. omega arith), ne-eqb (30 + 2 * k) 1 (λ e. omega arith), ne-eqb (30 + 2 * k) 15 (λ e. omega arith), ne-eqb (30 + 2 * k) 19 (λ e. omega arith), ne-eqb (30 + 2 * k) 22 (λ e. omega arith), ne-eqb (30 + 2 * k) 30 (λ e. omega arith))
+
 -- A SIGNAL IS PUT OUT. A clock of the node whose turn it is puts out a signal of kind q and leaves it at step e: the row that follows, by the tables; with k = 1 the row after it (Acking's closing Prefix)
 clocks : Bool → ℕ → ℕ → ℕ → Turn → Bool
 clocks fwd k q e t =
@@ -563,13 +563,6 @@ module _ (s : State) (v : Reach s) (i : ℕ) (l : i < s .n) where
       (λ k o p. mem-sub (turnAt (a .t) .room) (rowAt d .before) (y3 .0) (placeOf (s .cell k .mode)) (a .room k o (λ j. p (j ∙ sym w))))
       (λ f. let b = and-true (leb (suc (rowAt d .turns)) (turnAt (a .t) .turns)) _ (implied fwd _ (y3 .1) f) in
       omega (arith, ap bonus xe, rank-le (suc (rowAt d .turns)) (turnAt (a .t) .turns) (rowAt d .more + bonus e) (turnAt (a .t) .more) (s .n) (leb-true _ _ (b .0)) (leb-true _ _ (b .1))))
-
-  -- a step of Sending, or of Acking past its first, is no step of clearing
-  odd-clear : (k : ℕ) → mem (sendingAt k) clearSteps ≡ false
-  odd-clear k = rw (ne-eqb (31 + 2 * k) 0 (λ e. omega arith), ne-eqb (31 + 2 * k) 1 (λ e. omega arith), ne-eqb (31 + 2 * k) 15 (λ e. omega arith), ne-eqb (31 + 2 * k) 19 (λ e. omega arith), ne-eqb (31 + 2 * k) 22 (λ e. omega arith), ne-eqb (31 + 2 * k) 30 (λ e. omega arith))
-
-  even-clear : (k : ℕ) → 1 ≤ k → mem (ackingAt k) clearSteps ≡ false
-  even-clear k h = rw (ne-eqb (30 + 2 * k) 0 (λ e. omega arith), ne-eqb (30 + 2 * k) 1 (λ e. omega arith), ne-eqb (30 + 2 * k) 15 (λ e. omega arith), ne-eqb (30 + 2 * k) 19 (λ e. omega arith), ne-eqb (30 + 2 * k) 22 (λ e. omega arith), ne-eqb (30 + 2 * k) 30 (λ e. omega arith))
 
   -- the last step of Sending is 5, and that of Acking 2
   last-sending : (a : Talk (s .n) (s .cell)) (k : ℕ) → 5 ≤ k → turnAt (a .t) .step ≡ sendingAt k → k ≡ 5

@@ -1,9 +1,9 @@
 -- What holds of every state that a run reaches: each node's marks say what its mode is, and the bus is at one of the stages. Then what follows of who holds the bus.
 use mathlib.Core.Path.{_≡_, refl, sym, ap, subst, _∙_}
 use mathlib.Core.Logic.{_≢_}
-use mathlib.Core.Bool.{Bool, true, false, cond, _&&_, _||_, not}
+use mathlib.Core.Bool.{Bool, true, false, _&&_, _||_, not}
 use mathlib.Core.List.{List, [], _∷_}
-use Prim.Native.Nat.{ℕ, _<_, _≤_, _+_, _*_}
+use Prim.Native.Nat.{ℕ, _<_, _≤_}
 use native.Mathlib.Omega.{arith}
 use lib.Dec.{T, eqb, ltb}
 use borrow.Author.Tests.{eqb-true, eqb-false, ltb-true, ltb-false, eq-eqb, not-true}
@@ -14,8 +14,8 @@ use Rattle.charts.specs.Modes as P
 use Rattle.charts.specs.Modes.{placeOf}
 use Rattle.charts.specs.State.{State, holders, others, every, fresh}
 use Rattle.charts.proofs.Tools.{never, clash, implies, implied, and-true, pick-by, table-at, others-off, mem, everyIn, mem-sub}
-use Rattle.charts.proofs.Places.{law-mode, owing, active, stepIn, stepAt, stepOf, sendingAt, ackingAt}
-use Rattle.charts.proofs.Stages.{Row, rowAt, Turn, turnAt, quiet, ended, waiting, grantSteps, clearSteps, Delivery, Talk, BusyAt, talks, clears, Stage}
+use Rattle.charts.proofs.Places.{law-mode, owing, active, stepIn, stepAt, stepOf}
+use Rattle.charts.proofs.Stages.{Row, rowAt, Turn, turnAt, quiet, clearSteps, Delivery, Talk, Stage}
 
 -- a node is pending where its mode owes, and a holder where its mode acts
 abbrev pub Marks : Cell → Type 0

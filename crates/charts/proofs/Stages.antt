@@ -1,8 +1,8 @@
 -- The stages of a transaction as tables: at each stage the places in which the sender and the other nodes may be, and how many forward actions are left at most.
 -- Round 0 is the packet of the node that won, with its acknowledgement; round 1 is what a node sends that kept the bus (hold 1). (Request 1's mark of the bus says which round it is.)
-use mathlib.Core.Path.{_≡_, refl, sym, ap, subst, _∙_}
+use mathlib.Core.Path.{_≡_, refl, sym, subst}
 use mathlib.Core.Logic.{_≢_}
-use mathlib.Core.Bool.{Bool, true, false, cond, _&&_, _||_, not}
+use mathlib.Core.Bool.{Bool, true, cond, _&&_}
 use mathlib.Core.List.{List, [], _∷_}
 use Prim.Native.Nat.{ℕ, zero, suc, _<_, _≤_, _+_, _-_, _*_}
 use lib.Dec.{T, eqb, ltb, leb}
@@ -18,9 +18,9 @@ use Rattle.charts.specs.Modes.{placeOf}
 use Rattle.charts.specs.Signals as S
 use Rattle.charts.specs.Signals.{classOf, kindOf}
 use Rattle.charts.specs.Reception.{hears}
-use Rattle.charts.specs.State.{State, pendings, some, every}
-use Rattle.charts.proofs.Tools.{implies, implied, both, pick, is-true, every-at, table-at, everyPair, pairs-at, mem, everyIn}
-use Rattle.charts.proofs.Places.{Next, next, law, active, owing, sendingAt, ackingAt, stepOf}
+use Rattle.charts.specs.State.{pendings, some, every}
+use Rattle.charts.proofs.Tools.{implies, implied, both, pick, table-at, everyPair, mem, everyIn}
+use Rattle.charts.proofs.Places.{Next, next, law, active, sendingAt, ackingAt, stepOf}
 
 -- A signal under way: its kind, its round, the steps of its sender, the places of the other nodes before and after they heard it.
 -- What is left after it: `turns` times n and `more`. `next` is the turn that follows it (where the sender has asked from Holding, the turn after that; 15: none)

@@ -1,16 +1,18 @@
 -- What a step can be: a refusal that leaves the state, or an effect (Ways.antt) of the record's action on a valid state, about a node below n.
 use mathlib.Core.Path.{_≡_, refl, sym, ap, subst, _∙_}
-use mathlib.Core.Bool.{Bool, true, false, cond, _&&_, _||_, not}
+use mathlib.Core.Bool.{Bool, true, false, cond, _&&_, not}
+use mathlib.Core.List.{List, [], _∷_}
 use Prim.Native.Nat.{ℕ, _<_, _≤_}
 use native.Mathlib.Omega.{arith}
 use lib.Dec.{eqb, ltb}
-use borrow.Author.Tests.{eqb-true, ltb-true, not-true, not-false}
+use borrow.Author.Tests.{eqb-true, ltb-true, not-false}
 use Rattle.charts.specs.declared.Report.{Report}
 use Rattle.charts.specs.declared.Report.the-variants as R
 use Rattle.charts.specs.declared.Phase.{Phase}
 use Rattle.charts.specs.declared.Phase.the-variants.{Idle, Busy, Delivering, Granting, Gapping}
 use Rattle.charts.specs.declared.Cell.{Cell}
 use Rattle.charts.specs.declared.Clears.{Clears}
+use Rattle.charts.specs.declared.Clears.the-variants as C
 use Rattle.charts.specs.declared.Way.the-variants.{Pass, Lose, Change}
 use Rattle.charts.specs.declared.Move.{Move}
 use Rattle.charts.specs.declared.Move.the-variants.{Request, Arbitrate, Respond, Clock, Carry, Grant, GapNext, Reset}
@@ -18,12 +20,12 @@ use Rattle.charts.specs.declared.Action.{Action}
 use Rattle.charts.specs.declared.Decoded.{Decoded}
 use Rattle.charts.specs.declared.Decoded.the-variants.{Refused, Accepted}
 use Rattle.charts.specs.Numbers as N
-use Rattle.charts.specs.State.{State, pendings, lowest, every}
+use Rattle.charts.specs.State.{State, pendings, cleared}
 use Rattle.charts.specs.Actions.{Outcome, closed, does, nextOf}
-use Rattle.charts.specs.Records.{isKind, namesNode, namesAddress, namesAnswer, clean, isAddress, moveOf, packetOf, read}
+use Rattle.charts.specs.Records.{isKind, namesNode, namesAddress, clean, isAddress, moveOf, read}
 use Rattle.charts.specs.Valid.{isSize, isAck, phaseFits, cellFits, valid}
-use Rattle.charts.specs.Step.{Result, refuses, carryOut, about, comesTo, play, look, stepWith, step, Event, refusal, accepted, eventOf}
-use Rattle.charts.proofs.Tools.{never, and-true, or-false, pick-by, lowest-below, every-at}
+use Rattle.charts.specs.Step.{Result, refuses, carryOut, about, comesTo, play, look, stepWith, step, after, Event, refusal, accepted, eventOf}
+use Rattle.charts.proofs.Tools.{never, and-true, pick-by, lowest-below, every-at}
 use Rattle.charts.proofs.Ways.{Effect, effect}
 
 -- the fields of a move are in their ranges: the node below n, the address an address, the acknowledgement at most 15
@@ -93,7 +95,7 @@ is-valid s e =
     record { two = ltb-true 1 (s .n) (b .0); small = ltb-true (s .n) 64 (b .1); phase-fits = c .0; cells-fit = every-at (λ k. cellFits (s .n) (s .cell k)) (s .n) (c .1) }
 
 -- the node that an action is about is below n
-next-lt : (n : ℕ) (p : Phase) → 2 ≤ n → phaseFits n p ≡ true → nextOf p < n
+pub next-lt : (n : ℕ) (p : Phase) → 2 ≤ n → phaseFits n p ≡ true → nextOf p < n
 unfolding phaseFits
 next-lt n Idle h e = omega arith
 next-lt n Busy h e = omega arith
@@ -101,7 +103,7 @@ next-lt n (Delivering i g j) h e = ltb-true j n (and-true (ltb j n) _ (and-true 
 next-lt n Granting h e = omega arith
 next-lt n (Gapping j) h e = ltb-true j n e
 
-about-lt : (s : State) → Valid s → (m : Move) → Known (s .n) m → about s m < s .n
+pub about-lt : (s : State) → Valid s → (m : Move) → Known (s .n) m → about s m < s .n
 about-lt s v (Request i p) k = k .0
 about-lt s v (Arbitrate i) k = k
 about-lt s v (Respond i a h) k = k .0
@@ -131,3 +133,20 @@ stepped s a = pick-by (λ d. Stepped s a (stepWith s d) (eventOf a (stepWith s d
     go : valid s ≡ true → (d : Decoded) → Decodes (s .n) a d → Stepped s a (stepWith s d) (eventOf a (stepWith s d))
     go e (Refused k) (turned q) = turn k q
     go e (Accepted m) (taken k) = out e k (comesTo s (moveOf a)) (effect s (moveOf a))
+
+-- the number of nodes never changes
+pub cleared-n : (x : Clears) (t : State) → cleared x t .n ≡ t .n
+cleared-n C.Nothing t = refl
+cleared-n C.Misled t = refl
+cleared-n C.Won t = refl
+
+pub step-n : (s : State) (a : Action) → step s a .state .n ≡ s .n
+step-n s a = go (step s a) (eventOf a (step s a)) (stepped s a)
+  where
+    go : (x : Result) (e : Event) → Stepped s a x e → x .state .n ≡ s .n
+    go x e (refused q) = refl
+    go x e (acts {x = y} v k l z) = cleared-n y _
+
+pub run-n : (s : State) (l : List Action) → after s l .n ≡ s .n
+run-n s [] = refl
+run-n s (a ∷ l) = run-n (step s a .state) l ∙ step-n s a

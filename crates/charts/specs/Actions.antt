@@ -1,7 +1,7 @@
 -- "Bus and actions": what each of the ten kinds of action does. An action is about one node i: it makes a report, the bus goes to a phase, and that node's cell changes;
 -- beyond that only a Start clears the misled marks and a reset the won marks. So each action is a function of the few values that it looks at.
 use mathlib.Core.Bool.{Bool, true, false, cond, _&&_, _||_, not}
-use Prim.Native.Nat.{ℕ, zero, suc}
+use Prim.Native.Nat.{ℕ, suc}
 use lib.Dec.{eqb, ltb}
 use Rattle.charts.specs.declared.Mode.{Mode}
 use Rattle.charts.specs.declared.Mode.the-variants.{Rest, Sending, Answering, Acking, Spurious}

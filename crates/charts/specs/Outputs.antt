@@ -5,9 +5,8 @@ use lib.Dec.{eqb}
 use Rattle.charts.specs.declared.Mode.{Mode}
 use Rattle.charts.specs.declared.Mode.the-variants.{Rest, AwaitAck, AckBody, AckEnd, Opened, Addressed, HeadOwn, HeadAll, BodyOwn, BodyAll, TailOwn, TailAll, Wait, Owed, Sending, Told, Answering, Acking, Holding, Spurious}
 use Rattle.charts.specs.declared.Signal.{Signal}
-use Rattle.charts.specs.declared.Signal.the-variants.{Start, End, Prefix, Gap, Dhead, Dest, Header, Data, Ack}
-use Rattle.charts.specs.declared.Report.{Report}
-use Rattle.charts.specs.declared.Report.the-variants.{Silent, Won, Lost, Sent, Acked, Miss, Good, Dcrc, Broad}
+use Rattle.charts.specs.declared.Signal.the-variants.{Start, End, Prefix, Dhead, Dest, Header, Data, Ack}
+use Rattle.charts.specs.declared.Report.the-variants.{Silent, Sent}
 use Rattle.charts.specs.declared.Packet.{Packet}
 use Rattle.charts.specs.declared.Output.{Output}
 use Rattle.charts.specs.declared.Output.the-variants.{Nothing, Frees, Puts}

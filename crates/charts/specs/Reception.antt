@@ -1,5 +1,5 @@
 -- "What a node does with a signal": the reception chart, 23 modes (AckEnd, TailOwn and TailAll count as two each) by 14 classes of signals.
-use mathlib.Core.Bool.{Bool, true, false, cond}
+use mathlib.Core.Bool.{true, false, cond}
 use Prim.Native.Nat.{ℕ}
 use lib.Dec.{eqb}
 use Rattle.charts.specs.declared.Head.{Head}
@@ -9,9 +9,9 @@ use Rattle.charts.specs.declared.Datum.the-variants as D
 use Rattle.charts.specs.declared.Mode.{Mode}
 use Rattle.charts.specs.declared.Mode.the-variants.{Rest, AwaitAck, AckBody, AckEnd, Opened, Addressed, HeadOwn, HeadAll, BodyOwn, BodyAll, TailOwn, TailAll, Wait, Owed, Sending, Told, Answering, Acking, Holding, Spurious}
 use Rattle.charts.specs.declared.Signal.{Signal}
-use Rattle.charts.specs.declared.Signal.the-variants.{Start, End, Prefix, Gap, Dhead, Dest, Header, Data, Ack}
+use Rattle.charts.specs.declared.Signal.the-variants.{Ack}
 use Rattle.charts.specs.declared.Report.{Report}
-use Rattle.charts.specs.declared.Report.the-variants.{Silent, Won, Lost, Sent, Acked, Miss, Good, Dcrc, Broad}
+use Rattle.charts.specs.declared.Report.the-variants.{Silent, Acked, Miss, Good, Dcrc, Broad}
 use Rattle.charts.specs.declared.Heard.{Heard}
 use Rattle.charts.specs.Signals as S
 use Rattle.charts.specs.Signals.{classOf, isLine, closes, headOf, datumOf, ackOf}

@@ -1,7 +1,7 @@
 -- An action record looked at by the numbers 2 to 6, in that order.
 use mathlib.Core.Bool.{Bool, cond, _&&_, _||_, not}
 use Prim.Native.Nat.{ℕ}
-use lib.Dec.{eqb, ltb, leb}
+use lib.Dec.{eqb, ltb}
 use Rattle.charts.specs.declared.Packet.{Packet}
 use Rattle.charts.specs.declared.Way.the-variants.{Pass, Lose, Change}
 use Rattle.charts.specs.declared.Move.{Move}

@@ -1,5 +1,5 @@
 -- Number 12: which states may be handed in. Only the phase and the nodes below n are looked at.
-use mathlib.Core.Bool.{Bool, true, false, cond, _&&_, not}
+use mathlib.Core.Bool.{Bool, true, _&&_, not}
 use Prim.Native.Nat.{ℕ}
 use lib.Dec.{eqb, ltb}
 use Rattle.charts.specs.declared.Seen.{Seen}

@@ -1,0 +1,203 @@
+-- Sanity, computed by the checker: the marked cases A to F and I of document 01 as a table, played by the charts, and a refusal of each number that a step gives.
+use mathlib.Core.Path.{_≡_, refl}
+use mathlib.Core.Bool.{false, cond, true≢false}
+use mathlib.Core.List.{List, [], _∷_, _++_, map}
+use Prim.Native.Nat.{ℕ, zero, suc}
+use lib.ListN.{set, take}
+use Rattle.charts.specs.declared.Head.{Head}
+use Rattle.charts.specs.declared.Signal.the-variants.{Prefix}
+use Rattle.charts.specs.declared.Report.{Report}
+use Rattle.charts.specs.declared.Report.the-variants.{Silent, Won, Lost, Sent, Acked, Miss, Good, Dcrc, Broad}
+use Rattle.charts.specs.declared.Phase.{Phase}
+use Rattle.charts.specs.declared.Phase.the-variants.{Idle, Busy, Delivering, Gapping}
+use Rattle.charts.specs.declared.Action.{Action}
+use Rattle.charts.specs.Numbers as N
+use Rattle.charts.specs.Reception.{hears}
+use Rattle.charts.specs.Outputs.{output}
+use Rattle.charts.specs.Arrivals.{arrives}
+use Rattle.charts.specs.State.{State, fresh}
+use Rattle.charts.specs.Actions as Actions
+use Rattle.charts.specs.Actions.{outcome}
+use Rattle.charts.specs.Records.{clean, moveOf, read}
+use Rattle.charts.specs.Valid.{modeFits, cellFits, phaseFits, valid}
+use Rattle.charts.specs.Step.{Result, Event, refuses, play, look, step, begin, after, results, isAccepted}
+use Rattle.charts.proofs.Steps as S
+use Rattle.charts.proofs.Steps.{Stepped, stepped}
+
+-- the action records
+abbrev act : ℕ → ℕ → ℕ → ℕ → ℕ → ℕ → ℕ → Action
+act kind node address ack hold header datum =
+    record { kind = kind; node = node; address = address; ack = ack; hold = hold; byte5 = 0; byte6 = 0; byte7 = 0; header = header; datum = datum }
+
+abbrev request : ℕ → ℕ → ℕ → ℕ → Action
+request i to h d = act 1 i to 0 0 h d
+
+abbrev arbitrate : ℕ → Action
+arbitrate i = act 2 i 0 0 0 0 0
+
+abbrev respond : ℕ → ℕ → ℕ → Action
+respond i a hold = act 3 i 0 a hold 0 0
+
+abbrev clock : ℕ → Action
+clock i = act 4 i 0 0 0 0 0
+
+abbrev pass : Action
+pass = act 5 0 0 0 0 0 0
+
+abbrev lose : Action
+lose = act 6 0 0 0 0 0 0
+
+abbrev change : ℕ → Action
+change b = act 7 0 b 0 0 0 0
+
+abbrev grant : Action
+grant = act 8 0 0 0 0 0 0
+
+abbrev gap : Action
+gap = act 9 0 0 0 0 0 0
+
+abbrev reset : Action
+reset = act 10 0 0 0 0 0 0
+
+abbrev times : ℕ → List Action → List Action
+times zero l = []
+times (suc k) l = l ++ times k l
+
+-- what a run shows: each report and each refusal with its index, how many actions were accepted, and the bus at the end
+pub record At (A : Type 0) : Type 0 where
+  pub index : ℕ
+  pub is : A
+
+abbrev at : {A : Type 0} → ℕ → A → At A
+at i a = record { index = i; is = a }
+
+pub record Shown : Type 0 where
+  pub reports : List (At Report)
+  pub refusals : List (At ℕ)
+  pub done : ℕ
+  pub bus : Phase
+
+abbrev said : ℕ → Report → List (At Report) → List (At Report)
+said i Silent l = l
+said i (Won j) l = at i (Won j) ∷ l
+said i (Lost j) l = at i (Lost j) ∷ l
+said i (Sent j) l = at i (Sent j) ∷ l
+said i (Acked j a) l = at i (Acked j a) ∷ l
+said i (Miss j) l = at i (Miss j) ∷ l
+said i (Good j h d) l = at i (Good j h d) ∷ l
+said i (Dcrc j h) l = at i (Dcrc j h) ∷ l
+said i (Broad j h d) l = at i (Broad j h d) ∷ l
+
+abbrev reportsFrom : ℕ → List Result → List (At Report)
+reportsFrom i [] = []
+reportsFrom i (r ∷ l) = said i (r .report) (reportsFrom (suc i) l)
+
+abbrev refusalsFrom : ℕ → List Result → List (At ℕ)
+refusalsFrom i [] = []
+refusalsFrom i (r ∷ l) = cond (isAccepted r) (refusalsFrom (suc i) l) (at i (r .number) ∷ refusalsFrom (suc i) l)
+
+abbrev acceptedOf : List Result → ℕ
+acceptedOf [] = 0
+acceptedOf (r ∷ l) = cond (isAccepted r) (suc (acceptedOf l)) (acceptedOf l)
+
+abbrev shows : ℕ → List Action → Shown
+shows n l =
+    record { reports = reportsFrom 0 (results (fresh n) l); refusals = refusalsFrom 0 (results (fresh n) l); done = acceptedOf (results (fresh n) l); bus = after (fresh n) l .phase }
+
+-- "n = 2: request 0 to 63 (header 1, data 2), arbitrate 0, six times clock 0 and pass, gap, gap"
+abbrev a : List Action
+a = request 0 63 1 2 ∷ arbitrate 0 ∷ times 6 (clock 0 ∷ pass ∷ []) ++ (gap ∷ gap ∷ [])
+
+-- "as A but 0 to 1 (5, 6) […]; grant, respond 1 with 1 and hold 0, three times clock 1 and pass […]; two gaps"
+abbrev b : List Action
+b = request 0 1 5 6 ∷ arbitrate 0 ∷ times 6 (clock 0 ∷ pass ∷ []) ++ (grant ∷ respond 1 1 0 ∷ times 3 (clock 1 ∷ pass ∷ []) ++ (gap ∷ gap ∷ []))
+
+-- "n = 3, 0 to 1, node 2's Dest changed to 2", both grants; then clock 1, clock 2, clock 1
+abbrev f : List Action
+f =
+    request 0 1 5 6 ∷ arbitrate 0 ∷ times 2 (clock 0 ∷ pass ∷ pass ∷ []) ++ (clock 0 ∷ pass ∷ change 2 ∷ times 3 (clock 0 ∷ pass ∷ pass ∷ []))
+    ++ (grant ∷ grant ∷ clock 1 ∷ clock 2 ∷ clock 1 ∷ [])
+
+-- a row: the nodes and the actions, and what document 01 says that they show
+pub record Row : Type 0 where
+  pub nodes : ℕ
+  pub actions : List Action
+  pub shown : Shown
+
+abbrev row : ℕ → List Action → List (At Report) → List (At ℕ) → ℕ → Phase → Row
+row n l reports refusals done bus = record { nodes = n; actions = l; shown = record { reports = reports; refusals = refusals; done = done; bus = bus } }
+
+abbrev head : ℕ → Head
+head h = record { header = h }
+
+abbrev pub table : List Row
+table =
+    -- A: sent at 12, broad at 13
+    row 2 a (at 1 (Won 0) ∷ at 12 (Sent 0) ∷ at 13 (Broad 1 (head 1) 2) ∷ []) [] 16 Idle
+    -- B: "index 13 reports `1 good 5 6`; […] index 21 reports `0 ack 1`; […] `done 24`"
+    ∷ row 2 b (at 1 (Won 0) ∷ at 13 (Good 1 (head 5) 6) ∷ at 21 (Acked 0 1) ∷ []) [] 24 Idle
+    -- C: "B with change at 11: 13 reports `1 dcrc 5`"
+    ∷ row 2 (set b 11 (change 0)) (at 1 (Won 0) ∷ at 13 (Dcrc 1 (head 5)) ∷ at 21 (Acked 0 1) ∷ []) [] 24 Idle
+    -- D: "B with lose at 9, nothing reported at 13; grant, clock 1, gap: index 16 reports `0 miss`"
+    ∷ row 2 (take 14 (set b 9 lose) ++ (grant ∷ clock 1 ∷ gap ∷ [])) (at 1 (Won 0) ∷ at 16 (Miss 0) ∷ []) [] 17 (Gapping 1)
+    -- E: "B with lose at 19: 21 reports `0 miss`"
+    ∷ row 2 (set b 19 lose) (at 1 (Won 0) ∷ at 13 (Good 1 (head 5) 6) ∷ at 21 (Miss 0) ∷ []) [] 24 Idle
+    -- F: "after both grants clock 1 is refused 7 until clock 2"
+    ∷ row 3 f (at 1 (Won 0) ∷ at 18 (Good 1 (head 5) 6) ∷ []) (at 22 7 ∷ []) 24 (Delivering 1 Prefix 0)
+    -- I: "acknowledgement 15 taken, 16 refused": B up to its grant, then respond 16, respond 15, and once more (7: the node is Acking by then)
+    ∷ row 2 (take 15 b ++ (respond 1 16 0 ∷ respond 1 15 0 ∷ respond 1 15 0 ∷ [])) (at 1 (Won 0) ∷ at 13 (Good 1 (head 5) 6) ∷ []) (at 15 6 ∷ at 17 7 ∷ []) 16 Busy
+    ∷ []
+
+pub cases : map (λ (r : Row). shows (r .nodes) (r .actions)) table ≡ map (λ (r : Row). r .shown) table
+unfolding step look play outcome Actions.request Actions.arbitrate Actions.respond Actions.clock Actions.carry Actions.grant Actions.gap Actions.reset output arrives hears clean moveOf read valid phaseFits cellFits modeFits
+cases = refl
+
+-- a fresh bus handed out
+abbrev hands : ℕ → Result
+hands n = record { number = N.accepted; report = Silent; state = fresh n }
+
+-- I: "n = 1 refused, 2 and 63 taken, 64 refused"; "A refused fresh bus returns number 1 with a state like a fresh one whose n is 0."
+pub sizes : map begin (1 ∷ 2 ∷ 63 ∷ 64 ∷ []) ≡ refuses (fresh 0) 1 ∷ hands 2 ∷ hands 63 ∷ refuses (fresh 0) 1 ∷ []
+unfolding begin
+sizes = refl
+
+-- a refusal of each number that a step gives, the table's examples first: the state handed in, the action, the number
+pub record Refusal : Type 0 where
+  pub handed : State
+  pub action : Action
+  pub number : ℕ
+
+abbrev refused : State → Action → ℕ → Refusal
+refused s x k = record { handed = s; action = x; number = k }
+
+abbrev pub refusals : List Refusal
+refusals =
+    refused (fresh 2) (act 0 0 0 0 0 0 0) 2  -- kind 0
+    ∷ refused (fresh 2) (act 11 0 0 0 0 0 0) 2
+    ∷ refused (fresh 2) (act 10 1 0 0 0 0 0) 3  -- reset with node 1
+    ∷ refused (fresh 2) (clock 2) 4  -- n = 2, clock 2
+    ∷ refused (fresh 2) (request 0 2 0 0) 5  -- n = 2, request to 2
+    ∷ refused (fresh 2) (respond 0 16 0) 6  -- respond 16
+    ∷ refused (fresh 2) (respond 0 0 2) 6
+    ∷ refused (after (fresh 2) (take 13 b)) lose 7  -- lose on End
+    ∷ refused (fresh 2) reset 7
+    ∷ refused (fresh 0) reset 12  -- state with n = 0
+    ∷ refused (fresh 64) reset 12
+    -- "A step looks at 12, then 2 to 7": each of these has two faults
+    ∷ refused (fresh 0) (act 0 0 0 0 0 0 0) 12
+    ∷ refused (fresh 2) (act 0 1 0 0 0 0 0) 2
+    ∷ refused (fresh 2) (act 4 2 1 0 0 0 0) 3
+    ∷ refused (fresh 2) (request 2 2 0 0) 4
+    ∷ []
+
+pub refusals-hold : map (λ (r : Refusal). step (r .handed) (r .action) .number) refusals ≡ map (λ (r : Refusal). r .number) refusals
+unfolding step look play outcome Actions.request Actions.arbitrate Actions.respond Actions.clock Actions.carry Actions.grant Actions.gap Actions.reset output arrives hears clean moveOf read valid phaseFits cellFits modeFits
+refusals-hold = refl
+
+-- "A refused step returns the number, the state handed in and no report": at every state and record
+pub refused-keeps : (s : State) (x : Action) → isAccepted (step s x) ≡ false → step s x ≡ refuses s (step s x .number)
+refused-keeps s x = go (stepped s x)
+  where
+    go : {r : Result} {e : Event} → Stepped s x r e → isAccepted r ≡ false → r ≡ refuses s (r .number)
+    go (S.refused k) q = refl
+    go (S.acts v k l w) q = absurd (true≢false q)

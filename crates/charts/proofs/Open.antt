@@ -1,0 +1,199 @@
+-- Outside Idle some forward action is open: pass, grant or gap; on a Busy bus the clock of a holder, or its respond or request where the clock would be a filler.
+use mathlib.Core.Path.{_≡_, refl, sym, ap, subst, _∙_}
+use mathlib.Core.Logic.{_≢_}
+use mathlib.Core.Bool.{Bool, true, false, cond, _&&_, _||_, not, true≢false}
+use mathlib.Core.List.{List, [], _∷_}
+use Prim.Native.Nat.{ℕ, _<_}
+use lib.Dec.{eqb, ltb, leb}
+use borrow.Author.Tests.{eqb-true, lt-ltb}
+use Rattle.charts.specs.declared.Mode.{Mode}
+use Rattle.charts.specs.declared.Mode.the-variants.{Sending, Acking, Spurious}
+use Rattle.charts.specs.declared.Signal.{Signal}
+use Rattle.charts.specs.declared.Output.{Output}
+use Rattle.charts.specs.declared.Output.the-variants as O
+use Rattle.charts.specs.declared.Phase.{Phase}
+use Rattle.charts.specs.declared.Phase.the-variants.{Idle, Busy, Delivering, Granting, Gapping}
+use Rattle.charts.specs.declared.Report.{Report}
+use Rattle.charts.specs.declared.Cell.{Cell}
+use Rattle.charts.specs.declared.Clears.{Clears}
+use Rattle.charts.specs.declared.Packet.{Packet}
+use Rattle.charts.specs.declared.Way.the-variants.{Pass}
+use Rattle.charts.specs.declared.Move.{Move}
+use Rattle.charts.specs.declared.Move.the-variants.{Request, Respond, Clock, Carry, Grant, GapNext}
+use Rattle.charts.specs.declared.Action.{Action}
+use Rattle.charts.specs.declared.Decoded.the-variants.{Refused, Accepted}
+use Rattle.charts.specs.Numbers as N
+use Rattle.charts.specs.Modes as P
+use Rattle.charts.specs.Modes.{placeOf, isRest, isAnswering, isHolding}
+use Rattle.charts.specs.Outputs as Outputs
+use Rattle.charts.specs.Outputs.{output}
+use Rattle.charts.specs.Arrivals as Arrivals
+use Rattle.charts.specs.State.{State, pendings, holders, some, others, lowest, isIdle, isBusy, isGranting, isEmpty}
+use Rattle.charts.specs.Actions as Actions
+use Rattle.charts.specs.Actions.{Outcome, does, when}
+use Rattle.charts.specs.Records.{clean, moveOf, read}
+use Rattle.charts.specs.Valid.{valid}
+use Rattle.charts.specs.Step.{carryOut, about, comesTo, play, look, stepWith, step, isAccepted}
+use Rattle.charts.specs.Demand.{forward, isForward}
+use Rattle.charts.proofs.Tools.{never, clash, implies, implied, pick, none-of, lowest-of, lowest-lt, others-none, table-at, mem, mem-one, neither, or-yes}
+use Rattle.charts.proofs.Places.{law-mode, active, stepIn, ackIn, holdIn, stepOf, mode-is}
+use Rattle.charts.proofs.Stages.{turnAt, clearSteps, acting, BusyAt, talks, clears, Stage}
+use Rattle.charts.proofs.Reach.{Reach, is-talker}
+use Rattle.charts.proofs.Progress.{acting-step, odd-clear}
+
+pub data Opens : Outcome → Type 0 where
+  opens : {r : Report} {p : Phase} {c : Cell} {x : Clears} → Opens (does r p c x)
+
+open-when : (b : Bool) (o : Outcome) → b ≡ true → Opens o → Opens (when b o)
+open-when true o e x = x
+open-when false o e x = never e
+
+-- the nodes that were told, and answer
+abbrev pub answerers : List ℕ
+answerers = P.told ∷ P.answering ∷ P.acking ∷ []
+
+-- a node that acts while the bus clears, and is not spurious, answers
+clear-answers : (m : Mode) → mem (stepOf m) clearSteps ≡ true → active (placeOf m) ≡ true → eqb (placeOf m) P.spurious ≡ false → mem (placeOf m) answerers ≡ true
+clear-answers m h a z = go (eqb (placeOf m) P.sending) refl
+  where
+    rest : eqb (placeOf m) P.sending ≡ false → eqb (placeOf m) P.holding ≡ false → mem (placeOf m) answerers ≡ true
+    rest p q = implied _ _ (implied _ _ (implied _ _ (implied (active (placeOf m)) _ (law-mode (λ p. implies (active p) (implies (not (eqb p P.sending)) (implies (not (eqb p P.holding)) (implies (not (eqb p P.spurious)) (mem p answerers))))) tt m) a) (ap not p)) (ap not q)) (ap not z)
+
+    held : (b : Bool) → eqb (placeOf m) P.holding ≡ b → b ≡ false
+    held false e = refl
+    held true e = clash _ h (ap (λ m. mem (stepOf m) clearSteps) (mode-is m P.holding (eqb-true _ _ e)))
+
+    go : (b : Bool) → eqb (placeOf m) P.sending ≡ b → mem (placeOf m) answerers ≡ true
+    go true e = clash _ h (ap (λ m. mem (stepOf m) clearSteps) (mode-is m P.sending (eqb-true _ _ e)) ∙ odd-clear (stepIn m))
+    go false e = rest e (held (eqb (placeOf m) P.holding) refl)
+
+-- records of the actions that are found open
+abbrev bare : ℕ → ℕ → ℕ → Action
+bare k i a = record { kind = k; node = i; address = a; ack = 0; hold = 0; byte5 = 0; byte6 = 0; byte7 = 0; header = 0; datum = 0 }
+
+abbrev nothing-to : ℕ → Packet
+nothing-to a = record { to = a; head = record { header = 0 }; datum = 0 }
+
+module _ (s : State) (v : valid s ≡ true) where
+  abbrev Found : Type 0
+  Found = (a : Action) × (isForward s a ≡ true)
+
+  -- a record that is read as an open forward move is an open forward action
+  is-open : (a : Action) (m : Move) → moveOf a ≡ m → read (s .n) a ≡ Accepted m → Opens (comesTo s m) → forward s m ≡ true → Found
+  unfolding step look play
+  is-open a m e q o f = (a, subst (λ d. isAccepted (stepWith s d) && forward s (moveOf a) ≡ true) (sym (ap (λ b. cond b (read (s .n) a) (Refused N.not-valid)) v ∙ q)) (subst (λ m′. isAccepted (play s m) && forward s m′ ≡ true) (sym e) (go (comesTo s m) o)))
+    where
+      go : (o : Outcome) → Opens o → isAccepted (carryOut s (about s m) o) && forward s m ≡ true
+      go o opens = f
+
+  read-clock : (i : ℕ) → i < s .n → read (s .n) (bare 4 i 0) ≡ Accepted (Clock i)
+  unfolding read clean moveOf
+  read-clock i l = ap (λ b. cond (not b) (Refused N.wrong-node) (Accepted (Clock i))) (lt-ltb i (s .n) l)
+
+  read-respond : (i : ℕ) → i < s .n → read (s .n) (bare 3 i 0) ≡ Accepted (Respond i 0 false)
+  unfolding read clean moveOf
+  read-respond i l = ap (λ b. cond (not b) (Refused N.wrong-node) (Accepted (Respond i 0 false))) (lt-ltb i (s .n) l)
+
+  read-request : (i : ℕ) → i < s .n → read (s .n) (bare 1 i 63) ≡ Accepted (Request i (nothing-to 63))
+  unfolding read clean moveOf
+  read-request i l =
+      ap (λ b. cond (not b) (Refused N.wrong-node) (cond (not (ltb 63 (s .n) || true)) (Refused N.wrong-address) (Accepted (Request i (nothing-to 63))))) (lt-ltb i (s .n) l)
+      ∙ ap (λ b. cond (not b) (Refused N.wrong-address) (Accepted (Request i (nothing-to 63)))) (or-yes (ltb 63 (s .n)))
+
+  -- a node below n that holds the bus; unless it is spurious, it alone
+  module _ (i : ℕ) (l : i < s .n) (h : s .cell i .holder ≡ true) (sole : eqb (placeOf (s .cell i .mode)) P.spurious ≡ false → others (holders (s .cell)) i (s .n) ≡ false) where
+    abbrev Clocks : Output → Type 0
+    Clocks o = Opens (Actions.clockWith (s .n) i (s .cell i) (holders (s .cell)) o)
+
+    module _ (o : others (holders (s .cell)) i (s .n) ≡ false) where
+      puts-open : (g : Signal) (m : Mode) (r : Report) → Clocks (O.Puts g m r)
+      puts-open g m r = open-when (s .cell i .holder && not (others (holders (s .cell)) i (s .n))) _ (ap (λ b. b && not (others (holders (s .cell)) i (s .n))) h ∙ ap not o) opens
+
+      sends-open : (k : ℕ) (p : Packet) → Clocks (Outputs.sends i k p)
+      sends-open k p =
+          pick Clocks (eqb k 0) _ _ (puts-open _ _ _) (pick Clocks (eqb k 1) _ _ (puts-open _ _ _) (pick Clocks (eqb k 2) _ _ (puts-open _ _ _) (pick Clocks (eqb k 3) _ _ (puts-open _ _ _)
+          (pick Clocks (eqb k 4) _ _ (puts-open _ _ _) (pick Clocks (eqb (p .to) 63) _ _ (puts-open _ _ _) (puts-open _ _ _))))))
+
+      acks-open : (k a : ℕ) (b : Bool) → Clocks (Outputs.acks k a b)
+      acks-open k a b = pick Clocks (eqb k 0) _ _ (puts-open _ _ _) (pick Clocks (eqb k 1) _ _ (puts-open _ _ _) (pick Clocks b _ _ (puts-open _ _ _) (puts-open _ _ _)))
+
+    clock-opens : mem (placeOf (s .cell i .mode)) (P.sending ∷ P.acking ∷ P.spurious ∷ []) ≡ true → Clocks (output i (s .cell i .mode) (s .cell i .sending))
+    unfolding output
+    clock-opens t = go (eqb (placeOf m) P.sending) (eqb (placeOf m) P.acking) refl refl t
+      where
+        m : Mode
+        m = s .cell i .mode
+
+        is : (m′ : Mode) → m ≡ m′ → Clocks (output i m′ (s .cell i .sending)) → Clocks (output i m (s .cell i .sending))
+        is m′ e x = subst (λ m. Clocks (output i m (s .cell i .sending))) (sym e) x
+
+        go : (b c : Bool) → eqb (placeOf m) P.sending ≡ b → eqb (placeOf m) P.acking ≡ c → b || (c || (eqb (placeOf m) P.spurious || false)) ≡ true → Clocks (output i m (s .cell i .sending))
+        go true c p q t = is (Sending (stepIn m)) (mode-is m P.sending (eqb-true (placeOf m) P.sending p)) (sends-open (sole (ap (λ p. eqb p P.spurious) (eqb-true (placeOf m) P.sending p))) (stepIn m) (s .cell i .sending))
+        go false true p q t = is (Acking (stepIn m) (ackIn m) (holdIn m)) (mode-is m P.acking (eqb-true (placeOf m) P.acking q)) (acks-open (sole (ap (λ p. eqb p P.spurious) (eqb-true (placeOf m) P.acking q))) (stepIn m) (ackIn m) (holdIn m))
+        go false false p q t = is Spurious (mode-is m P.spurious (mem-one P.spurious (placeOf m) t)) (open-when (s .cell i .holder) _ h opens)
+
+    -- its forward action: a request in Holding, a respond in Answering, else its clock
+    holder-opens : s .phase ≡ Busy → active (placeOf (s .cell i .mode)) ≡ true → Found
+    unfolding moveOf Actions.outcome Actions.request Actions.respond Actions.clock
+    holder-opens b e = go (isHolding (s .cell i .mode)) (isAnswering (s .cell i .mode)) refl refl
+      where
+        go : (x y : Bool) → isHolding (s .cell i .mode) ≡ x → isAnswering (s .cell i .mode) ≡ y → Found
+        go true y p q = is-open (bare 1 i 63) (Request i (nothing-to 63)) refl (read-request i l) (pick Opens (isRest (s .cell i .mode) && isEmpty (s .cell i .buffer)) _ _ opens (open-when (isHolding (s .cell i .mode)) _ p opens)) p
+        go false true p q = is-open (bare 3 i 0) (Respond i 0 false) refl (read-respond i l) (open-when (isAnswering (s .cell i .mode)) _ q opens) refl
+        go false false p q = is-open (bare 4 i 0) (Clock i) refl (read-clock i l) (open-when (isBusy (s .phase)) _ (ap isBusy b) (clock-opens t)) (ap not (neither _ _ q p))
+          where
+            t : mem (placeOf (s .cell i .mode)) (P.sending ∷ P.acking ∷ P.spurious ∷ []) ≡ true
+            t = implied _ _ (implied _ _ (implied (active (placeOf (s .cell i .mode))) _ (law-mode (λ p. implies (active p) (implies (not (eqb p P.holding)) (implies (not (eqb p P.answering)) (mem p (P.sending ∷ P.acking ∷ P.spurious ∷ []))))) tt (s .cell i .mode)) e) (ap not p)) (ap not q)
+
+  module _ (r : Reach s) (one : (j k : ℕ) → j < s .n → k < s .n → mem (placeOf (s .cell j .mode)) answerers ≡ true → mem (placeOf (s .cell k .mode)) answerers ≡ true → j ≡ k) where
+    abbrev stray : ℕ → Bool
+    stray k = eqb (placeOf (s .cell k .mode)) P.spurious
+
+    -- the holders are those whose mode acts
+    sole-holder : (i : ℕ) → ((k : ℕ) → k < s .n → active (placeOf (s .cell k .mode)) ≡ true → k ≡ i) → others (holders (s .cell)) i (s .n) ≡ false
+    sole-holder i u = others-none (holders (s .cell)) (s .n) i (λ k l q. r .marks k .1 ∙ go k l q (active (placeOf (s .cell k .mode))) refl)
+      where
+        go : (k : ℕ) → k < s .n → k ≢ i → (b : Bool) → active (placeOf (s .cell k .mode)) ≡ b → b ≡ false
+        go k l q true e = absurd (q (u k l e))
+        go k l q false e = refl
+
+    busy-opens : s .phase ≡ Busy → BusyAt (s .n) (s .cell) → Found
+    busy-opens b (talks a) = holder-opens (a .w) (a .here) (r .marks (a .w) .1 ∙ e) (λ z. sole-holder (a .w) (is-talker (s .n) (s .cell) a)) b e
+      where
+        e : active (placeOf (s .cell (a .w) .mode)) ≡ true
+        e = acting-step (s .cell (a .w) .mode) (ap (λ c. leb 30 c || active c) (a .talker) ∙ table-at (λ t. leb 30 (turnAt t .step) || active (turnAt t .step)) 15 tt (a .t) (a .t-lt))
+    busy-opens b (clears a y) = go (some stray (s .n)) refl
+      where
+        go : (x : Bool) → some stray (s .n) ≡ x → Found
+        go true q = holder-opens i (lowest-lt stray (s .n) 0 q) (r .marks i .1 ∙ e) (λ z. clash _ (lowest-of stray (s .n) 0 q) z) b e
+          where
+            i : ℕ
+            i = lowest stray (s .n) 0
+
+            e : active (placeOf (s .cell i .mode)) ≡ true
+            e = ap active (eqb-true (placeOf (s .cell i .mode)) P.spurious (lowest-of stray (s .n) 0 q))
+        go false q = holder-opens i l (r .marks i .1 ∙ e) (λ z. sole-holder i (λ k m u. one k i m l (answers k m u) (answers i l e))) b e
+          where
+            i : ℕ
+            i = lowest (acting (s .cell)) (s .n) 0
+
+            l : i < s .n
+            l = lowest-lt (acting (s .cell)) (s .n) 0 y
+
+            e : active (placeOf (s .cell i .mode)) ≡ true
+            e = lowest-of (acting (s .cell)) (s .n) 0 y
+
+            answers : (k : ℕ) → k < s .n → active (placeOf (s .cell k .mode)) ≡ true → mem (placeOf (s .cell k .mode)) answerers ≡ true
+            answers k m u = clear-answers (s .cell k .mode) (a k m) u (none-of stray (s .n) q k m)
+
+    -- outside Idle a forward action is open
+    pub some-open : isIdle (s .phase) ≡ false → Found
+    unfolding read clean moveOf Actions.outcome Actions.carry Arrivals.arrives Actions.grant Actions.gap
+    some-open e = go (s .phase) refl (r .stage) e
+      where
+        go : (p : Phase) → s .phase ≡ p → Stage p (s .n) (s .cell) → isIdle p ≡ false → Found
+        go Idle q a e = absurd (true≢false e)
+        go Busy q a e = busy-opens q a
+        go (Delivering w g j) q a e = is-open (bare 5 0 0) (Carry Pass) refl refl (subst (λ p. Opens (Actions.carry (s .n) p (s .cell (Actions.nextOf p)) (pendings (s .cell)) Pass)) (sym q) opens) refl
+        go Granting q a e = is-open (bare 8 0 0) Grant refl refl (open-when (isGranting (s .phase)) _ (ap isGranting q) (pick Opens (some (pendings (s .cell)) (s .n)) _ _ opens opens)) refl
+        go (Gapping j) q a e = is-open (bare 9 0 0) GapNext refl refl (subst (λ p. Opens (Actions.gap (s .n) p (s .cell (Actions.nextOf p)))) (sym q) opens) refl
