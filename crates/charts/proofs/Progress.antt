@@ -28,7 +28,7 @@ use Rattle.charts.specs.Signals.{kindOf, isEnd}
 use Rattle.charts.specs.Reception.{hears}
 use Rattle.charts.specs.Arrivals.{passed}
 use Rattle.charts.specs.State.{State, setMode, setHolder, pendings, holders, upd, some, others, lowest, every, moved, cleared}
-use Rattle.charts.specs.Actions.{does, firstOther, nextOther, onward, granted}
+use Rattle.charts.specs.Actions.{does, firstOther, nextOther, putsOut, freed, afterFree, onward, granted, afterGrant, takesGap, afterGap}
 use Rattle.charts.specs.Demand.{forward}
 use Rattle.charts.proofs.Tools.{never, clash, implies, implied, and-true, neither, or-true, pick-by, at-upd, at-upd≢, upd-same, upd-other, upd-map, none-of, some-at, some-agree, others-off, lowest-of, lowest-lt, table-at, mem, everyIn, mem-sub, mem-two}
 use Rattle.charts.proofs.Places.{law, law-mode, owing, active, owes, acts, gap-owes, stepIn, stepOf, place-lt, sendingAt, ackingAt}
@@ -579,7 +579,7 @@ module _ (s : State) (v : Reach s) (i : ℕ) (l : i < s .n) where
 
   -- what node i puts out in its turn, and while the bus clears; x is its cell then
   abbrev after-put : Mode → Signal → Cell
-  after-put m g = setMode m (setHolder (not (isEnd g)) (s .cell i))
+  after-put m g = putsOut g m (s .cell i)
 
   abbrev Put : Bool → ℕ → Signal → Mode → Type 0
   Put fwd r g m = Goes fwd r (Delivering i g (firstOther i)) (s .n) (upd (s .cell) i (after-put m g))
@@ -636,7 +636,7 @@ module _ (s : State) (v : Reach s) (i : ℕ) (l : i < s .n) where
     puts-clear m g m′ r e holds-on = other-step m e refl
 
     -- a spurious holder ends its holding
-    frees-goes : placeOf (s .cell i .mode) ≡ P.spurious → Goes true (clearRank (s .n) (s .cell)) (Gapping 0) (s .n) (upd (s .cell) i (setMode Rest (setHolder false (s .cell i))))
+    frees-goes : placeOf (s .cell i .mode) ≡ P.spurious → Goes true (clearRank (s .n) (s .cell)) (Gapping 0) (s .n) (upd (s .cell) i (freed (s .cell i)))
     frees-goes p = record {
       stage = record {
         gap-lt = omega arith;
@@ -648,7 +648,7 @@ module _ (s : State) (v : Reach s) (i : ℕ) (l : i < s .n) where
 
   -- other holders are left
   frees-one : ((k : ℕ) → k < s .n → mem (stepOf (s .cell k .mode)) clearSteps ≡ true) → others (holders (s .cell)) i (s .n) ≡ true → placeOf (s .cell i .mode) ≡ P.spurious →
-      Goes true (clearRank (s .n) (s .cell)) Busy (s .n) (upd (s .cell) i (setMode Rest (setHolder false (s .cell i))))
+      Goes true (clearRank (s .n) (s .cell)) Busy (s .n) (upd (s .cell) i (freed (s .cell i)))
   frees-one a o p = record {
     stage = clears (λ k z. at-upd (λ k c. k < s .n → mem (stepOf (c .mode)) clearSteps ≡ true) (s .cell) i x k (λ z. refl) (a k) z)
         (some-agree (acting (upd (s .cell) i x)) (upd (holders (s .cell)) i false) (s .n) (λ k z. upd-map (λ c. active (placeOf (c .mode))) (s .cell) i x k ∙ at-upd≢ (λ k b. upd (acting (s .cell)) i false k ≡ b) (holders (s .cell)) i false k (upd-same (acting (s .cell)) i false) (λ q. upd-other (acting (s .cell)) i false k q ∙ sym (v .marks k .1))) ∙ o);
@@ -656,7 +656,7 @@ module _ (s : State) (v : Reach s) (i : ℕ) (l : i < s .n) where
   }
     where
       x : Cell
-      x = setMode Rest (setHolder false (s .cell i))
+      x = freed (s .cell i)
 
 -- THE WAYS
 -- a fact about what is left, in a phase that is known
@@ -687,7 +687,7 @@ module _ (s : State) (v : Reach s) where
   }
 
   granted-goes : (i : ℕ) → i < s .n → s .cell i .pending ≡ true → (a : GrantingAt (s .n) (s .cell)) → (c : Cell) → c .mode ≡ granted (s .cell i .mode) → c .pending ≡ false →
-      Goes true (clearRank (s .n) (s .cell)) (cond (others (pendings (s .cell)) i (s .n)) Granting Busy) (s .n) (upd (s .cell) i c)
+      Goes true (clearRank (s .n) (s .cell)) (afterGrant (s .n) i (pendings (s .cell))) (s .n) (upd (s .cell) i c)
   granted-goes i l p a c e q =
       pick-by (λ x. Goes true (clearRank (s .n) (s .cell)) x (s .n) cells) (others (pendings (s .cell)) i (s .n)) _ _
       (λ o. record { stage = record { steps = in-grant; pends = some-agree (pendings cells) (upd (pendings (s .cell)) i false) (s .n) pend-upd ∙ o }; lower = λ z. omega (arith, sum) })
@@ -718,14 +718,14 @@ module _ (s : State) (v : Reach s) where
       clear o k z = at-upd≢ (λ k c. k < s .n → mem (stepOf (c .mode)) clearSteps ≡ true) (s .cell) i c k (λ z. at-it clearSteps refl)
           (λ q z. owes-no (s .cell k .mode) (a .steps k z) (sym (v .marks k .0) ∙ others-off (pendings (s .cell)) (s .n) i o k z q)) z
 
-  gapped-goes : (j : ℕ) (a : GappingAt (s .n) (s .cell) j) → Goes true (s .n - j) (cond (ltb (suc j) (s .n)) (Gapping (suc j)) Idle) (s .n) (upd (s .cell) j (setMode (hears j (s .cell j .mode) Gap .mode) (s .cell j)))
+  gapped-goes : (j : ℕ) (a : GappingAt (s .n) (s .cell) j) → Goes true (s .n - j) (afterGap (s .n) j) (s .n) (upd (s .cell) j (takesGap j (s .cell j)))
   gapped-goes j a =
       pick-by (λ x. Goes true (s .n - j) x (s .n) cells) (ltb (suc j) (s .n)) _ _
       (λ e. let l = ltb-true (suc j) (s .n) e in record { stage = record { gap-lt = l; calm = still; past = low }; lower = λ z. omega arith })
       (λ e. let l = ltb-false (suc j) (s .n) e in record { stage = λ k z. low k z (omega arith); lower = λ z. omega (arith, a .gap-lt) })
     where
       x : Cell
-      x = setMode (hears j (s .cell j .mode) Gap .mode) (s .cell j)
+      x = takesGap j (s .cell j)
 
       cells : ℕ → Cell
       cells = upd (s .cell) j x
@@ -756,14 +756,14 @@ module _ (s : State) (v : Reach s) where
   moves-on m i r p c x l (gives e) = shift (s .n) (s .cell) i l P.answering (ackingAt 0) P.acking responds c (ap stepOf e) (ap placeOf e) refl refl refl (s .phase) (v .stage)
   moves-on m i r p c x l (puts {g = g} {m = m′} q h o y) = on-phase (s .n) (s .cell) (λ z. Goes (forward s m) z p (s .n) (upd (s .cell) i c)) (s .phase) Busy q (v .stage) go
     where
-      go : (b : BusyAt (s .n) (s .cell)) → Goes (not (isAnswering (s .cell i .mode) || isHolding (s .cell i .mode))) (busyRank (s .n) (s .cell) b) (Delivering i g (firstOther i)) (s .n) (upd (s .cell) i (setMode m′ (setHolder (not (isEnd g)) (s .cell i))))
+      go : (b : BusyAt (s .n) (s .cell)) → Goes (not (isAnswering (s .cell i .mode) || isHolding (s .cell i .mode))) (busyRank (s .n) (s .cell) b) (Delivering i g (firstOther i)) (s .n) (upd (s .cell) i (putsOut g m′ (s .cell i)))
       go (talks a) = puts-turn s v i l a (s .cell i .mode) g m′ r refl y
       go (clears a u) = puts-clear s v i l a o (s .cell i .mode) g m′ r refl y
   moves-on m i r p c x l (frees q h e) = on-phase (s .n) (s .cell) (λ z. Goes (forward s m) z p (s .n) (upd (s .cell) i c)) (s .phase) Busy q (v .stage) (λ b. forward-it (go b))
     where
-      go : (b : BusyAt (s .n) (s .cell)) → Goes true (busyRank (s .n) (s .cell) b) (cond (others (holders (s .cell)) i (s .n)) Busy (Gapping 0)) (s .n) (upd (s .cell) i (setMode Rest (setHolder false (s .cell i))))
+      go : (b : BusyAt (s .n) (s .cell)) → Goes true (busyRank (s .n) (s .cell) b) (afterFree (s .n) i (holders (s .cell))) (s .n) (upd (s .cell) i (freed (s .cell i)))
       go (talks a) = absurd (no-turn (s .n) (s .cell) a P.spurious tt (ap (λ i. stepOf (s .cell i .mode)) (sym (is-talker (s .n) (s .cell) a i l (ap (λ m. active (placeOf m)) e))) ∙ ap stepOf e))
-      go (clears a u) = pick-by (λ z. Goes true (clearRank (s .n) (s .cell)) z (s .n) (upd (s .cell) i (setMode Rest (setHolder false (s .cell i))))) (others (holders (s .cell)) i (s .n)) _ _ (λ o. frees-one s v i l a o (ap placeOf e)) (λ o. frees-goes s v i l a o (ap placeOf e))
+      go (clears a u) = pick-by (λ z. Goes true (clearRank (s .n) (s .cell)) z (s .n) (upd (s .cell) i (freed (s .cell i)))) (others (holders (s .cell)) i (s .n)) _ _ (λ o. frees-one s v i l a o (ap placeOf e)) (λ o. frees-goes s v i l a o (ap placeOf e))
 
       forward-it : {z : ℕ} {p : Phase} {f : ℕ → Cell} → Goes true z p (s .n) f → Goes (not (isAnswering (s .cell i .mode) || isHolding (s .cell i .mode))) z p (s .n) f
       forward-it {z} {p} {f} g = record { stage = g .stage; lower = λ e. g .lower refl }

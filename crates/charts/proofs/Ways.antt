@@ -35,7 +35,7 @@ use Rattle.charts.specs.Arrivals as Arrivals
 use Rattle.charts.specs.Arrivals.{passed}
 use Rattle.charts.specs.State.{State, setMode, setBuffer, setWon, setPending, setHolder, wons, pendings, holders, some, others, lowest, isIdle, isBusy, isGranting, isEmpty}
 use Rattle.charts.specs.Actions as Actions
-use Rattle.charts.specs.Actions.{Outcome, closed, does, quietly, when, starts, firstOther, hearing, delivers, granted, nextOf}
+use Rattle.charts.specs.Actions.{Outcome, closed, does, quietly, when, fills, answers, firstOther, putsOut, clearedBy, freed, afterFree, hearing, delivers, takesGrant, afterGrant, takesGap, afterGap, nextOf}
 use Rattle.charts.specs.Step.{about, comesTo}
 use Rattle.charts.proofs.Tools.{never, and-true, pick-by}
 use Rattle.charts.proofs.Places.{mode-is}
@@ -67,24 +67,24 @@ pub data Arrives (misled : Bool) : Way → Signal → Signal → Bool → Type 0
 -- an action m about node i comes to o, in one of fourteen ways (or it is not open)
 pub data Effect (s : State) : Move → ℕ → Outcome → Type 0 where
   refuses : {m : Move} {i : ℕ} → Effect s m i closed
-  waits : {i : ℕ} {p : Packet} → placeOf (s .cell i .mode) ≡ P.rest → s .cell i .buffer ≡ Empty → Effect s (Request i p) i (quietly (s .phase) (setBuffer (Full p) (s .cell i)))
-  replies : {i : ℕ} {p : Packet} → s .cell i .mode ≡ Holding → Effect s (Request i p) i (quietly (s .phase) (starts p (s .cell i)))
+  waits : {i : ℕ} {p : Packet} → placeOf (s .cell i .mode) ≡ P.rest → s .cell i .buffer ≡ Empty → Effect s (Request i p) i (quietly (s .phase) (fills p (s .cell i)))
+  replies : {i : ℕ} {p : Packet} → s .cell i .mode ≡ Holding → Effect s (Request i p) i (quietly (s .phase) (Actions.replies p (s .cell i)))
   wins : {i : ℕ} {p : Packet} → s .phase ≡ Idle → placeOf (s .cell i .mode) ≡ P.rest → s .cell i .buffer ≡ Full p → s .cell i .won ≡ false →
-      Effect s (Arbitrate i) i (does (R.Won i) Busy (setBuffer Empty (setWon true (setHolder true (starts p (s .cell i))))) C.Nothing)
+      Effect s (Arbitrate i) i (does (R.Won i) Busy (Actions.wins p (s .cell i)) C.Nothing)
   loses : {i : ℕ} → Effect s (Arbitrate i) i (does (R.Lost i) (s .phase) (s .cell i) C.Nothing)
-  gives : {i a : ℕ} {h : Bool} → s .cell i .mode ≡ Answering → Effect s (Respond i a h) i (quietly (s .phase) (setMode (Acking 0 a h) (s .cell i)))
+  gives : {i a : ℕ} {h : Bool} → s .cell i .mode ≡ Answering → Effect s (Respond i a h) i (quietly (s .phase) (answers a h (s .cell i)))
   puts : {i : ℕ} {g : Signal} {m : Mode} {r : Report} → s .phase ≡ Busy → s .cell i .holder ≡ true → others (holders (s .cell)) i (s .n) ≡ false → Puts i (s .cell i .sending) (s .cell i .mode) g m r →
-      Effect s (Clock i) i (does r (Delivering i g (firstOther i)) (setMode m (setHolder (not (isEnd g)) (s .cell i))) (cond (isStart g) C.Misled C.Nothing))
+      Effect s (Clock i) i (does r (Delivering i g (firstOther i)) (putsOut g m (s .cell i)) (clearedBy g))
   frees : {i : ℕ} → s .phase ≡ Busy → s .cell i .holder ≡ true → s .cell i .mode ≡ Spurious →
-      Effect s (Clock i) i (quietly (cond (others (holders (s .cell)) i (s .n)) Busy (Gapping 0)) (setMode Rest (setHolder false (s .cell i))))
+      Effect s (Clock i) i (quietly (afterFree (s .n) i (holders (s .cell))) (freed (s .cell i)))
   arrives : {v : Way} {w : ℕ} {g : Signal} {j : ℕ} {t : Signal} {b : Bool} → s .phase ≡ Delivering w g j → Arrives (s .cell j .misled) v g t b →
       Effect s (Carry v) j (delivers (s .n) w g j (pendings (s .cell)) (hears j (s .cell j .mode) t .report) (hearing (s .cell j) (hears j (s .cell j .mode) t) b))
   drops : {w : ℕ} {g : Signal} {j : ℕ} → s .phase ≡ Delivering w g j → leb 6 (kindOf g) ≡ true → Effect s (Carry Lose) j (delivers (s .n) w g j (pendings (s .cell)) R.Silent (s .cell j))
   grants : {i : ℕ} → s .phase ≡ Granting → some (pendings (s .cell)) (s .n) ≡ true → lowest (pendings (s .cell)) (s .n) 0 ≡ i →
-      Effect s Grant i (quietly (cond (others (pendings (s .cell)) i (s .n)) Granting Busy) (setMode (granted (s .cell i .mode)) (setPending false (setHolder true (s .cell i)))))
+      Effect s Grant i (quietly (afterGrant (s .n) i (pendings (s .cell))) (takesGrant (s .cell i)))
   grants-none : {i : ℕ} → s .phase ≡ Granting → some (pendings (s .cell)) (s .n) ≡ false → Effect s Grant i (quietly Busy (s .cell i))
   gaps : {j : ℕ} → s .phase ≡ Gapping j →
-      Effect s GapNext j (does (hears j (s .cell j .mode) Gap .report) (cond (ltb (suc j) (s .n)) (Gapping (suc j)) Idle) (setMode (hears j (s .cell j .mode) Gap .mode) (s .cell j)) C.Nothing)
+      Effect s GapNext j (does (hears j (s .cell j .mode) Gap .report) (afterGap (s .n) j) (takesGap j (s .cell j)) C.Nothing)
   resets : {i : ℕ} → s .phase ≡ Idle → Effect s Reset i (does R.Silent (s .phase) (s .cell i) C.Won)
 
 is-idle : (p : Phase) → isIdle p ≡ true → p ≡ Idle

@@ -49,26 +49,38 @@ abbrev pub starts : Packet → Cell → Cell
 starts p c = setMode (Sending 0) (setSending p c)
 
 -- 1. request: "in Rest with an empty buffer it fills the buffer; in Holding it becomes the packet being sent, → Sending"
+abbrev pub fills : Packet → Cell → Cell
+fills p c = setBuffer (Full p) c
+
+abbrev pub replies : Packet → Cell → Cell
+replies p c = starts p c
+
 unfoldable pub request : Phase → Cell → Packet → Outcome
 request ph c p =
-    cond (isRest (c .mode) && isEmpty (c .buffer)) (quietly ph (setBuffer (Full p) c))
-    (when (isHolding (c .mode)) (quietly ph (starts p c)))
+    cond (isRest (c .mode) && isEmpty (c .buffer)) (quietly ph (fills p c))
+    (when (isHolding (c .mode)) (quietly ph (replies p c)))
 
 -- 2. arbitrate: "in Rest, buffer full. Bus Idle and not marked won: report won, mark won and holder, bus Busy, packet leaves the buffer, → Sending.
 -- Otherwise report lost; nothing changes"
+abbrev pub wins : Packet → Cell → Cell
+wins p c = setBuffer Empty (setWon true (setHolder true (starts p c)))
+
 abbrev pub arbitrateWith : Phase → ℕ → Cell → Buffer → Outcome
 arbitrateWith ph i c Empty = closed
 arbitrateWith ph i c (Full p) =
     when (isRest (c .mode)) (cond (isIdle ph && not (c .won))
-    (does (R.Won i) Busy (setBuffer Empty (setWon true (setHolder true (starts p c)))) C.Nothing)
+    (does (R.Won i) Busy (wins p c) C.Nothing)
     (does (R.Lost i) ph c C.Nothing))
 
 unfoldable pub arbitrate : Phase → ℕ → Cell → Outcome
 arbitrate ph i c = arbitrateWith ph i c (c .buffer)
 
 -- 3. respond: "in Answering → Acking"
+abbrev pub answers : ℕ → Bool → Cell → Cell
+answers a hold c = setMode (Acking 0 a hold) c
+
 unfoldable pub respond : Phase → Cell → ℕ → Bool → Outcome
-respond ph c a hold = when (isAnswering (c .mode)) (quietly ph (setMode (Acking 0 a hold) c))
+respond ph c a hold = when (isAnswering (c .mode)) (quietly ph (answers a hold c))
 
 -- "every other node, lowest first": the first receiver of node i's signals, and the one after j
 abbrev pub firstOther : ℕ → ℕ
@@ -77,15 +89,27 @@ firstOther i = cond (eqb i 0) 1 0
 abbrev pub nextOther : ℕ → ℕ → ℕ
 nextOther i j = cond (eqb (suc j) i) (suc (suc j)) (suc j)
 
--- 4. clock: "bus Busy, node a holder, and either it is Spurious, or it is the only holder and in Sending, Answering, Acking or Holding".
--- "Spurious: its End reaches nobody; it goes to Rest and stops being holder; no holder left: bus Gapping from 0."
+-- 4. clock. "Spurious: its End reaches nobody; it goes to Rest and stops being holder; no holder left: bus Gapping from 0."
+abbrev pub freed : Cell → Cell
+freed c = setMode Rest (setHolder false c)
+
+abbrev pub afterFree : ℕ → ℕ → (ℕ → Bool) → Phase
+afterFree n i hs = cond (others hs i n) Busy (Gapping 0)
+
 -- "A signal put out makes the bus Delivering to every other node, lowest first. Start clears the misled marks. End ends the holding."
+abbrev pub putsOut : Signal → Mode → Cell → Cell
+putsOut s m c = setMode m (setHolder (not (isEnd s)) c)
+
+abbrev pub clearedBy : Signal → Clears
+clearedBy s = cond (isStart s) C.Misled C.Nothing
+
+-- "bus Busy, node a holder, and either it is Spurious, or it is the only holder and in Sending, Answering, Acking or Holding"
 abbrev pub clockWith : ℕ → ℕ → Cell → (ℕ → Bool) → Output → Outcome
 clockWith n i c hs O.Nothing = closed
-clockWith n i c hs O.Frees = when (c .holder) (quietly (cond (others hs i n) Busy (Gapping 0)) (setMode Rest (setHolder false c)))
+clockWith n i c hs O.Frees = when (c .holder) (quietly (afterFree n i hs) (freed c))
 clockWith n i c hs (O.Puts s m r) =
     when (c .holder && not (others hs i n))
-    (does r (Delivering i s (firstOther i)) (setMode m (setHolder (not (isEnd s)) c)) (cond (isStart s) C.Misled C.Nothing))
+    (does r (Delivering i s (firstOther i)) (putsOut s m c) (clearedBy s))
 
 unfoldable pub clock : ℕ → Phase → ℕ → Cell → (ℕ → Bool) → Outcome
 clock n ph i c hs = when (isBusy ph) (clockWith n i c hs (output i (c .mode) (c .sending)))
@@ -120,20 +144,31 @@ carry n (Gapping j) c ps w = closed
 abbrev pub granted : Mode → Mode
 granted m = cond (isTold m) Answering (cond (isOwed m) Spurious m)
 
+abbrev pub takesGrant : Cell → Cell
+takesGrant c = setMode (granted (c .mode)) (setPending false (setHolder true c))
+
+abbrev pub afterGrant : ℕ → ℕ → (ℕ → Bool) → Phase
+afterGrant n i ps = cond (others ps i n) Granting Busy
+
 unfoldable pub grant : ℕ → Phase → ℕ → Cell → (ℕ → Bool) → Outcome
 grant n ph i c ps =
     when (isGranting ph) (cond (some ps n)
-    (quietly (cond (others ps i n) Granting Busy) (setMode (granted (c .mode)) (setPending false (setHolder true c))))
+    (quietly (afterGrant n i ps) (takesGrant c))
     (quietly Busy c))
 
 -- 9. gap: "bus Gapping. The next node gets Gap; after node n−1 the bus is Idle."
+abbrev pub takesGap : ℕ → Cell → Cell
+takesGap j c = setMode (hears j (c .mode) Gap .mode) c
+
+abbrev pub afterGap : ℕ → ℕ → Phase
+afterGap n j = cond (ltb (suc j) n) (Gapping (suc j)) Idle
+
 unfoldable pub gap : ℕ → Phase → Cell → Outcome
 gap n Idle c = closed
 gap n Busy c = closed
 gap n (Delivering i s j) c = closed
 gap n Granting c = closed
-gap n (Gapping j) c =
-    does (hears j (c .mode) Gap .report) (cond (ltb (suc j) n) (Gapping (suc j)) Idle) (setMode (hears j (c .mode) Gap .mode) c) C.Nothing
+gap n (Gapping j) c = does (hears j (c .mode) Gap .report) (afterGap n j) (takesGap j c) C.Nothing
 
 -- 10. reset: "bus Idle with some won mark; clears these marks"
 unfoldable pub reset : ℕ → Phase → Cell → (ℕ → Bool) → Outcome
