@@ -9,7 +9,7 @@ use Rattle.charts.specs.declared.Signal.the-variants.{Prefix}
 use Rattle.charts.specs.declared.Report.{Report}
 use Rattle.charts.specs.declared.Report.the-variants.{Silent, Won, Lost, Sent, Acked, Miss, Good, Dcrc, Broad}
 use Rattle.charts.specs.declared.Phase.{Phase}
-use Rattle.charts.specs.declared.Phase.the-variants.{Idle, Busy, Delivering, Gapping}
+use Rattle.charts.specs.declared.Phase.the-variants.{Idle, Busy, Delivering, Granting, Gapping}
 use Rattle.charts.specs.declared.Action.{Action}
 use Rattle.charts.specs.Numbers as N
 use Rattle.charts.specs.Reception.{hears}
@@ -118,6 +118,12 @@ f =
     request 0 1 5 6 ∷ arbitrate 0 ∷ times 2 (clock 0 ∷ pass ∷ pass ∷ []) ++ (clock 0 ∷ pass ∷ change 2 ∷ times 3 (clock 0 ∷ pass ∷ pass ∷ []))
     ++ (grant ∷ grant ∷ clock 1 ∷ clock 2 ∷ clock 1 ∷ [])
 
+-- one of document 01's traps, "A misled mark left over from the packet before": F played to its end, and then a packet for node 2, which had been misled
+abbrev afterF : List Action
+afterF =
+    take 22 f ++ (clock 2 ∷ respond 1 1 0 ∷ times 3 (clock 1 ∷ pass ∷ pass ∷ []))
+    ++ (gap ∷ gap ∷ gap ∷ reset ∷ request 0 2 7 8 ∷ arbitrate 0 ∷ times 6 (clock 0 ∷ pass ∷ pass ∷ []))
+
 -- a row: the nodes and the actions, and what document 01 says that they show
 pub record Row : Type 0 where
   pub nodes : ℕ
@@ -144,6 +150,8 @@ table =
     ∷ row 2 (set b 19 lose) (at 1 (Won 0) ∷ at 13 (Good 1 (head 5) 6) ∷ at 21 (Miss 0) ∷ []) [] 24 Idle
     -- F: "after both grants clock 1 is refused 7 until clock 2"
     ∷ row 3 f (at 1 (Won 0) ∷ at 18 (Good 1 (head 5) 6) ∷ []) (at 22 7 ∷ []) 24 (Delivering 1 Prefix 0)
+    -- F to its end: the mark is cleared by the next Start, and node 2 hears the packet that is for it
+    ∷ row 3 afterF (at 1 (Won 0) ∷ at 18 (Good 1 (head 5) 6) ∷ at 31 (Acked 0 1) ∷ at 38 (Won 0) ∷ at 56 (Good 2 (head 7) 8) ∷ []) [] 57 Granting
     -- I: "acknowledgement 15 taken, 16 refused": B up to its grant, then respond 16, respond 15, and once more (7: the node is Acking by then)
     ∷ row 2 (take 15 b ++ (respond 1 16 0 ∷ respond 1 15 0 ∷ respond 1 15 0 ∷ [])) (at 1 (Won 0) ∷ at 13 (Good 1 (head 5) 6) ∷ []) (at 15 6 ∷ at 17 7 ∷ []) 16 Busy
     ∷ []

@@ -24,8 +24,8 @@ use Rattle.charts.specs.Actions.{does}
 use Rattle.charts.specs.Step.{Result, step, Event, refusal, accepted, eventOf, events}
 use Rattle.charts.specs.Demand.{Note, told, gave, Run, none, run, Confirmed, Book, newBook, asks, wins, confirms, note, notes, holdsFor, moverOf, nodeOf, moves, reports, enters, bookOf, Acknowledged, AllHonest, book}
 use Rattle.charts.specs.Stretch as Stretch
-use Rattle.charts.specs.Stretch.{heldBy, heldFrom, held, requestOf, wonOf, noWon, noStart, Starts, at-once, by-won, Tells, good, dcrc, Gives, givesNone, quiet, Witnessed, EveryAck}
-use Rattle.charts.proofs.Tools.{both, and-yes}
+use Rattle.charts.specs.Stretch.{heldBy, heldFrom, held, requestOf, wonOf, confirmationOf, noWon, noOther, Starts, at-once, by-won, Tells, good, dcrc, Gives, givesNone, quiet, Witnessed, EveryAck}
+use Rattle.charts.proofs.Tools.{both, neither, and-yes}
 use Rattle.charts.proofs.Ways as Ways
 use Rattle.charts.proofs.Ways.{Effect, waits, replies}
 use Rattle.charts.proofs.Steps as Steps
@@ -100,7 +100,7 @@ won-append i [] y = refl
 won-append i (refusal k ∷ x) y = won-append i x y
 won-append i (accepted m r ∷ x) y = rw (won-append i x y) (simp and-assoc)
 
-start-append : (i : ℕ) (h : Bool) (x y : List Event) → noStart i h (x ++ y) ≡ noStart i h x && noStart i (heldFrom i h x) y
+start-append : (i : ℕ) (h : Bool) (x y : List Event) → noOther i h (x ++ y) ≡ noOther i h x && noOther i (heldFrom i h x) y
 start-append i h [] y = refl
 start-append i h (refusal k ∷ x) y = start-append i h x y
 start-append i h (accepted m r ∷ x) y = rw (start-append i (heldBy i m h) x y) (simp and-assoc)
@@ -134,7 +134,7 @@ record Running (i : ℕ) (l : List Event) (p : Packet) (ns : List Note) : Type 0
   later : List Event
   split : l ≡ early ++ (start ∷ later)
   starts : Starts i early start p
-  last : noStart i (held i (early ++ (start ∷ []))) later ≡ true
+  last : noOther i (held i (early ++ (start ∷ []))) later ≡ true
   since : Since later ns
 
 abbrev Waits : ℕ → List Event → Buffer → Type 0
@@ -166,7 +166,7 @@ module _ (i : ℕ) (l : List Event) (e : Event) where
     unwon = won-append i (v .later) _ ∙ both _ _ (v .unwon) q;
   }
 
-  running-on : {p : Packet} {ns ms : List Note} → noStart i (held i l) (e ∷ []) ≡ true → ((k : List Event) → Since k ns → Since (k ++ (e ∷ [])) ms) →
+  running-on : {p : Packet} {ns ms : List Note} → noOther i (held i l) (e ∷ []) ≡ true → ((k : List Event) → Since k ns → Since (k ++ (e ∷ [])) ms) →
       Running i l p ns → Running i (l ++ (e ∷ [])) p ms
   running-on q f v = record {
     early = v .early;
@@ -174,7 +174,7 @@ module _ (i : ℕ) (l : List Event) (e : Event) where
     later = v .later ++ (e ∷ []);
     split = ap (λ l. l ++ (e ∷ [])) (v .split) ∙ append-assoc (v .early) _ _;
     starts = v .starts;
-    last = start-append i _ (v .later) _ ∙ both _ _ (v .last) (subst (λ h. noStart i h (e ∷ []) ≡ true)
+    last = start-append i _ (v .later) _ ∙ both _ _ (v .last) (subst (λ h. noOther i h (e ∷ []) ≡ true)
         (ap (held i) (v .split ∙ sym (append-assoc (v .early) (v .start ∷ []) (v .later))) ∙ held-append i false (v .early ++ (v .start ∷ [])) (v .later)) q);
     since = f (v .later) (v .since);
   }
@@ -183,30 +183,32 @@ module _ (i : ℕ) (l : List Event) (e : Event) where
   since-on q k (blank z) = blank (quiet-append k _ ∙ both _ _ z q)
   since-on q k (next {l = l} {e = d} s x k′ z) = rw (append-assoc l (d ∷ k′) (e ∷ [])) (next s x _ (quiet-append k′ _ ∙ both _ _ z q))
 
-  runs-on : (r : Run) → noStart i (held i l) (e ∷ []) ≡ true → quiet (e ∷ []) ≡ true → Runs i l r → Runs i (l ++ (e ∷ [])) r
+  runs-on : (r : Run) → noOther i (held i l) (e ∷ []) ≡ true → quiet (e ∷ []) ≡ true → Runs i l r → Runs i (l ++ (e ∷ [])) r
   runs-on none s q v = tt
   runs-on (run p ns) s q v = running-on s (since-on q) v
 
-  runs-note : (x : Note) (r : Run) → noStart i (held i l) (e ∷ []) ≡ true → Notes e x → Runs i l r → Runs i (l ++ (e ∷ [])) (note x r)
+  runs-note : (x : Note) (r : Run) → noOther i (held i l) (e ∷ []) ≡ true → Notes e x → Runs i l r → Runs i (l ++ (e ∷ [])) (note x r)
   runs-note x none s z v = tt
   runs-note x (run p ns) s z v = running-on s (λ k u. next u z [] refl) v
 
   begins : {p : Packet} → Starts i l e p → Running i (l ++ (e ∷ [])) p []
   begins s = record { early = l; start = e; later = []; split = refl; starts = s; last = refl; since = blank refl }
 
-  -- an event that is no start of node i and leaves its hold as it is
+  -- an event that is no `won` of node i and leaves its hold as it is; where it is neither a start nor a confirmation of node i, `other`
   record Calm : Type 0 where
     hold : heldFrom i (held i l) (e ∷ []) ≡ held i l
     won : noWon i (e ∷ []) ≡ true
-    start : noStart i (held i l) (e ∷ []) ≡ true
+
+  abbrev Other : Type 0
+  Other = noOther i (held i l) (e ∷ []) ≡ true
 
   -- after such an event the story goes on: with nothing, a note or a confirmation
   module _ (b : Book) (v : Story i l b) (c : Calm) where
-    passes : quiet (e ∷ []) ≡ true → Story i (l ++ (e ∷ [])) b
-    passes q = record { holds = v .holds ∙ sym (held-on ∙ c .hold); waiting = waits-on (b .waiting) (c .won) (v .waiting); running = runs-on (b .running) (c .start) q (v .running) }
+    passes : Other → quiet (e ∷ []) ≡ true → Story i (l ++ (e ∷ [])) b
+    passes o q = record { holds = v .holds ∙ sym (held-on ∙ c .hold); waiting = waits-on (b .waiting) (c .won) (v .waiting); running = runs-on (b .running) o q (v .running) }
 
-    noted : (x : Note) → Notes e x → Story i (l ++ (e ∷ [])) (notes x b)
-    noted x z = record { holds = v .holds ∙ sym (held-on ∙ c .hold); waiting = waits-on (b .waiting) (c .won) (v .waiting); running = runs-note x (b .running) (c .start) z (v .running) }
+    noted : Other → (x : Note) → Notes e x → Story i (l ++ (e ∷ [])) (notes x b)
+    noted o x z = record { holds = v .holds ∙ sym (held-on ∙ c .hold); waiting = waits-on (b .waiting) (c .won) (v .waiting); running = runs-note x (b .running) o z (v .running) }
 
     confirmed : (r : Report) (x : Run) → confirms r x b .wrong ≡ false → Story i (l ++ (e ∷ [])) (confirms r x b)
     confirmed r none w = absurd (true≢false w)
@@ -238,7 +240,7 @@ module _ (i : ℕ) (l : List Event) (b : Book) (v : Story i l b) where
   request : (j : ℕ) (p : Packet) (mine : Bool) → eqb i j ≡ mine → Story i (l ++ (accepted (Request j p) Silent ∷ [])) (moves mine (Request j p) b)
   request j p true q = subst (λ j. Story i (l ++ (accepted (Request j p) Silent ∷ [])) (asks (b .held) p b)) (eqb-true i j q) (my-request p (b .held) refl)
   request j p false q =
-      passes i l _ b v (record { hold = ap (λ y. held i l && not y) q ∙ and-yes (held i l); won = refl; start = ap (λ y. not ((y && held i l) || false) && true) q }) refl
+      passes i l _ b v (record { hold = ap (λ y. held i l && not y) q ∙ and-yes (held i l); won = refl }) (ap (λ y. not ((y && held i l) || false) && true) q) refl
 
   respond : (j a : ℕ) (h : Bool) → Story i (l ++ (accepted (Respond j a h) Silent ∷ [])) (notes (gave j a) (holdsFor (eqb i j) h b))
   respond j a h = record {
@@ -250,11 +252,10 @@ module _ (i : ℕ) (l : List Event) (b : Book) (v : Story i l b) where
   module _ (m : Move) (s : Aside m) where
     -- another move than a request or a respond, with its report
     calm : (r : Report) → wonOf i r ≡ false → Calm i l (accepted m r)
-    calm r q = record {
-      hold = s .no-hold i (held i l);
-      won = ap (λ w. not w && true) q;
-      start = ap (λ u. not ((u && held i l) || wonOf i r) && true) (s .no-request i) ∙ ap (λ w. not w && true) q;
-    }
+    calm r q = record { hold = s .no-hold i (held i l); won = ap (λ w. not w && true) q }
+
+    other : (r : Report) → wonOf i r ≡ false → confirmationOf i r ≡ false → Other i l (accepted m r)
+    other r q c = ap (λ u. not ((u && held i l) || (wonOf i r || confirmationOf i r)) && true) (s .no-request i) ∙ ap (λ w. not w && true) (neither _ _ q c)
 
     -- node i's won: the waiting request starts
     my-won : (f : Buffer) → Waits i l f → wins f b .wrong ≡ false → Story i (l ++ (accepted m (Won i) ∷ [])) (wins f b)
@@ -266,23 +267,23 @@ module _ (i : ℕ) (l : List Event) (b : Book) (v : Story i l b) where
     }
 
     report : (mine : Bool) (r : Report) → eqb i (nodeOf r) ≡ mine → reports mine r b .wrong ≡ false → Story i (l ++ (accepted m r ∷ [])) (reports mine r b)
-    report mine Silent q w = passes i l _ b v (calm Silent refl) (both _ _ (s .no-respond) refl)
+    report mine Silent q w = passes i l _ b v (calm Silent refl) (other Silent refl refl) (both _ _ (s .no-respond) refl)
     report true (Won j) q w = subst (λ j. Story i (l ++ (accepted m (Won j) ∷ [])) (wins (b .waiting) b)) (eqb-true i j q) (my-won (b .waiting) (v .waiting) w)
-    report false (Won j) q w = passes i l _ b v (calm (Won j) q) (both _ _ (s .no-respond) refl)
-    report mine (Lost j) q w = passes i l _ b v (calm (Lost j) refl) (both _ _ (s .no-respond) refl)
+    report false (Won j) q w = passes i l _ b v (calm (Won j) q) (other (Won j) q refl) (both _ _ (s .no-respond) refl)
+    report mine (Lost j) q w = passes i l _ b v (calm (Lost j) refl) (other (Lost j) refl refl) (both _ _ (s .no-respond) refl)
     report true (Sent j) q w = confirmed i l _ b v (calm (Sent j) refl) (Sent j) (b .running) w
-    report false (Sent j) q w = passes i l _ b v (calm (Sent j) refl) (both _ _ (s .no-respond) refl)
+    report false (Sent j) q w = passes i l _ b v (calm (Sent j) refl) (other (Sent j) refl q) (both _ _ (s .no-respond) refl)
     report true (Acked j a) q w = confirmed i l _ b v (calm (Acked j a) refl) (Acked j a) (b .running) w
-    report false (Acked j a) q w = passes i l _ b v (calm (Acked j a) refl) (both _ _ (s .no-respond) refl)
+    report false (Acked j a) q w = passes i l _ b v (calm (Acked j a) refl) (other (Acked j a) refl q) (both _ _ (s .no-respond) refl)
     report true (Miss j) q w = confirmed i l _ b v (calm (Miss j) refl) (Miss j) (b .running) w
-    report false (Miss j) q w = passes i l _ b v (calm (Miss j) refl) (both _ _ (s .no-respond) refl)
-    report mine (Good j h d) q w = noted i l _ b v (calm (Good j h d) refl) (told (Good j h d)) tells
-    report mine (Dcrc j h) q w = noted i l _ b v (calm (Dcrc j h) refl) (told (Dcrc j h)) tells
-    report mine (Broad j h d) q w = noted i l _ b v (calm (Broad j h d) refl) (told (Broad j h d)) tells
+    report false (Miss j) q w = passes i l _ b v (calm (Miss j) refl) (other (Miss j) refl q) (both _ _ (s .no-respond) refl)
+    report mine (Good j h d) q w = noted i l _ b v (calm (Good j h d) refl) (other (Good j h d) refl refl) (told (Good j h d)) tells
+    report mine (Dcrc j h) q w = noted i l _ b v (calm (Dcrc j h) refl) (other (Dcrc j h) refl refl) (told (Dcrc j h)) tells
+    report mine (Broad j h d) q w = noted i l _ b v (calm (Broad j h d) refl) (other (Broad j h d) refl refl) (told (Broad j h d)) tells
 
   -- the book and the list, both with one event more
   event : (n : ℕ) (e : Event) → Single n e → enters i e b .wrong ≡ false → Story i (l ++ (e ∷ [])) (enters i e b)
-  event n e refused w = passes i l e b v (record { hold = refl; won = refl; start = refl }) refl
+  event n e refused w = passes i l e b v (record { hold = refl; won = refl }) refl refl
   event n e (asked {j = j} {p = p}) w = request j p (eqb i j) refl
   event n e (answered {j = j} {a = a} {h = h}) w = respond j a h
   event n e (loud {m = m} {r = r} s o) w =
@@ -337,7 +338,7 @@ module _ (i a : ℕ) (before : List Event) (p : Packet) (ns : List Note) (v : Ru
     third = z .third;
     split = v .split ∙ ap (λ l. v .early ++ (v .start ∷ l)) (z .split);
     starts = v .starts;
-    last = subst (λ l. noStart i (held i (v .early ++ (v .start ∷ []))) l ≡ true) (z .split) (v .last);
+    last = subst (λ l. noOther i (held i (v .early ++ (v .start ∷ []))) l ≡ true) (z .split) (v .last);
     tells = z .tells;
     answers = z .answers;
     only = z .only;

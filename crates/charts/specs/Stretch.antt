@@ -32,7 +32,7 @@ heldFrom i h (accepted m r ∷ l) = heldFrom i (heldBy i m h) l
 abbrev pub held : ℕ → List Event → Bool
 held i l = heldFrom i false l
 
--- the move is a request of node i; the report is node i's won
+-- the move is a request of node i; the report is node i's won; it is a confirmation of node i
 abbrev pub requestOf : ℕ → Move → Bool
 requestOf i (Request j p) = eqb i j
 requestOf i (Arbitrate j) = false
@@ -54,16 +54,27 @@ wonOf i (Good j h d) = false
 wonOf i (Dcrc j h) = false
 wonOf i (Broad j h d) = false
 
--- no `won` of node i in a list of events; no request of node i starts in it, h saying whether the next one would start at once
+abbrev pub confirmationOf : ℕ → Report → Bool
+confirmationOf i Silent = false
+confirmationOf i (Won j) = false
+confirmationOf i (Lost j) = false
+confirmationOf i (Sent j) = eqb i j
+confirmationOf i (Acked j a) = eqb i j
+confirmationOf i (Miss j) = eqb i j
+confirmationOf i (Good j h d) = false
+confirmationOf i (Dcrc j h) = false
+confirmationOf i (Broad j h d) = false
+
+-- no `won` of node i in a list of events; no request of node i starts or is confirmed in it, h saying whether the next one would start at once
 abbrev pub noWon : ℕ → List Event → Bool
 noWon i [] = true
 noWon i (refusal k ∷ l) = noWon i l
 noWon i (accepted m r ∷ l) = not (wonOf i r) && noWon i l
 
-abbrev pub noStart : ℕ → Bool → List Event → Bool
-noStart i h [] = true
-noStart i h (refusal k ∷ l) = noStart i h l
-noStart i h (accepted m r ∷ l) = not ((requestOf i m && h) || wonOf i r) && noStart i (heldBy i m h) l
+abbrev pub noOther : ℕ → Bool → List Event → Bool
+noOther i h [] = true
+noOther i h (refusal k ∷ l) = noOther i h l
+noOther i h (accepted m r ∷ l) = not ((requestOf i m && h) || (wonOf i r || confirmationOf i r)) && noOther i (heldBy i m h) l
 
 -- "A request starts at once if […]. Any other starts with its node's next won": the event e, after the events `early`, starts node i's request of the packet p
 pub data Starts (i : ℕ) (early : List Event) : Event → Packet → Type 0 where
@@ -105,7 +116,7 @@ quiet [] = true
 quiet (refusal k ∷ l) = quiet l
 quiet (accepted m r ∷ l) = givesNone m && (tellsNone r && quiet l)
 
--- the events before an `ack a` of node i: its request's start, later one told report, later one respond, and between these and up to the ack nothing told, no respond, no other start of node i
+-- the events before an `ack a` of node i: its request's start, later one told report, later one respond, and between these and up to the ack nothing told, no respond, no other start and no confirmation of node i
 pub record Witnessed (i a : ℕ) (before : List Event) : Type 0 where
   pub packet : Packet
   pub early : List Event
@@ -117,7 +128,7 @@ pub record Witnessed (i a : ℕ) (before : List Event) : Type 0 where
   pub third : List Event
   pub split : before ≡ early ++ (start ∷ (first ++ (tell ∷ (second ++ (give ∷ third)))))
   pub starts : Starts i early start packet
-  pub last : noStart i (held i (early ++ (start ∷ []))) (first ++ (tell ∷ (second ++ (give ∷ third)))) ≡ true
+  pub last : noOther i (held i (early ++ (start ∷ []))) (first ++ (tell ∷ (second ++ (give ∷ third)))) ≡ true
   pub tells : Tells packet tell
   pub answers : Gives packet a give
   pub only : (quiet first ≡ true) × (quiet second ≡ true) × (quiet third ≡ true)
