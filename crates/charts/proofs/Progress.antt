@@ -450,6 +450,13 @@ module _ (n : ℕ) (f : ℕ → Cell) (i : ℕ) (l : i < n) (c c′ e : ℕ) (y 
       go true q = sym (eqb-true i w q)
       go false q = clash _ (ap (λ c. mem c k) (sym at-place) ∙ u (eqb-false i w q)) t
 
+  -- its turn t′ after its turn t
+  talker-on : (t′ : ℕ) → eqb (turnAt t′ .step) c′ ≡ true → stepOf (shifted i .mode) ≡ turnAt t′ .step
+  talker-on t′ h = ap (λ d. stepOf (d .mode)) (upd-same f i x) ∙ to-step ∙ sym (eqb-true (turnAt t′ .step) c′ h)
+
+  room-on : (t t′ : ℕ) → everyIn (turnAt t .room) (turnAt t′ .room) ≡ true → (k : ℕ) → k ≢ i → mem (placeOf (f k .mode)) (turnAt t .room) ≡ true → mem (placeOf (shifted k .mode)) (turnAt t′ .room) ≡ true
+  room-on t t′ h k q z = ap (λ d. mem (placeOf (d .mode)) (turnAt t′ .room)) (upd-other f i x k q) ∙ mem-sub (turnAt t .room) (turnAt t′ .room) h (placeOf (f k .mode)) z
+
   shift : (p : Phase) (a : Stage p n f) → Goes true (rank p n f a) p n shifted
   shift Idle a = absurd (y .no-rest (sym at-place ∙ a i l))
   shift Busy (clears a u) =
@@ -472,9 +479,8 @@ module _ (n : ℕ) (f : ℕ → Cell) (i : ℕ) (l : i < n) (c c′ e : ℕ) (y 
           t-lt = ltb-true (suc (a .t)) 15 (z0 .0);
           w = i;
           here = l;
-          talker = ap (λ d. stepOf (d .mode)) (upd-same f i x) ∙ to-step ∙ sym (eqb-true _ _ (z1 .0));
-          room = λ k o p. ap (λ d. mem (placeOf (d .mode)) (turnAt (suc (a .t)) .room)) (upd-other f i x k p)
-              ∙ mem-sub (turnAt (a .t) .room) (turnAt (suc (a .t)) .room) (z2 .0) (placeOf (f k .mode)) (a .room k o (λ r. p (r ∙ q)));
+          talker = talker-on (suc (a .t)) (z1 .0);
+          room = λ k o p. room-on (a .t) (suc (a .t)) (z2 .0) k p (a .room k o (λ r. p (r ∙ q)));
         });
         lower = λ z. less (eqb-true _ _ (z3 .0)) (ltb-true _ _ (z3 .1));
       }

@@ -1,0 +1,197 @@
+//! "What a node does with a signal".
+
+use super::report::Report;
+use super::signal::{Check, Signal};
+
+/// "Address 63 means all nodes".
+pub const ALL_NODES: u8 = 63;
+
+/// What a request hands over: the address of the packet, its header and its data.
+#[derive(Clone, Copy, PartialEq, Eq, Hash, Debug, Default)]
+pub struct Packet {
+    pub address: u8,
+    pub header: u32,
+    pub data: u32,
+}
+
+/// "A node's record holds its mode with what that mode remembers, its buffer (one packet or empty)
+/// and the packet it is sending (kept until the next replaces it; all 0 on a fresh bus)."
+#[derive(Clone, Copy, PartialEq, Eq, Hash, Debug)]
+pub struct Node {
+    pub mode: Mode,
+    pub buffer: Option<Packet>,
+    pub sending: Packet,
+}
+
+impl Node {
+    pub const FRESH: Node =
+        Node { mode: Mode::Rest, buffer: None, sending: Packet { address: 0, header: 0, data: 0 } };
+}
+
+/// In brackets: the listings' state.
+#[derive(Clone, Copy, PartialEq, Eq, Hash, Debug)]
+pub enum Mode {
+    /// (Link0)
+    Rest,
+    /// (2) Steps 0 to 5: Start, Dhead, Dest, Header, Data, End.
+    Sending {
+        step: u8,
+    },
+    /// (3)
+    AwaitAck,
+    /// (3RA)
+    AckBody,
+    /// (3RE) "remembering a if it was a good Ack"
+    AckEnd {
+        good: Option<u8>,
+    },
+    /// (4)
+    Opened,
+    /// (4DH)
+    Addressed,
+    /// (4RH)
+    HeadOwn,
+    HeadAll,
+    /// (4RD)
+    BodyOwn {
+        header: u32,
+    },
+    BodyAll {
+        header: u32,
+    },
+    /// `data` is None when the data were bad.
+    TailOwn {
+        header: u32,
+        data: Option<u32>,
+    },
+    TailAll {
+        header: u32,
+        data: Option<u32>,
+    },
+    /// (WSA)
+    Wait,
+    /// (WSA with a grant to come)
+    Owed,
+    /// (4DRec)
+    Told,
+    /// (5)
+    Answering,
+    /// (6) Steps 0 to 2: Start, Ack, then End or Prefix.
+    Acking {
+        step: u8,
+        ack: u8,
+        hold: bool,
+    },
+    /// (7)
+    Holding,
+    Spurious,
+}
+
+/// What a reception does beside the node's mode.
+#[derive(Clone, Copy, PartialEq, Eq, Debug)]
+pub enum Effect {
+    Nothing,
+    Report(Report),
+    /// "the node is entered as *pending* on the bus"
+    Pending,
+}
+
+impl Mode {
+    /// The reception charts: the mode after the signal, for node `own`, and what else comes of it.
+    pub fn receive(self, own: u8, signal: Signal) -> (Mode, Effect) {
+        use Mode::*;
+        use Signal::*;
+        let quiet = |mode| (mode, Effect::Nothing);
+        let report = |mode, report| (mode, Effect::Report(report));
+        match self {
+            // "Rest: Start → Opened; else stay."
+            Rest => match signal {
+                Start => quiet(Opened),
+                _ => quiet(Rest),
+            },
+            // "AwaitAck: Prefix stay; Start → AckBody; Gap: report miss, Rest; else miss, Wait."
+            AwaitAck => match signal {
+                Prefix => quiet(AwaitAck),
+                Start => quiet(AckBody),
+                Gap => report(Rest, Report::Miss),
+                _ => report(Wait, Report::Miss),
+            },
+            // "AckBody: Gap: miss, Rest; another line signal: miss, Wait; else → AckEnd,
+            // remembering a if it was a good Ack."
+            AckBody => match signal {
+                Gap => report(Rest, Report::Miss),
+                Start | End | Prefix => report(Wait, Report::Miss),
+                Ack(ack, Check::Good) => quiet(AckEnd { good: Some(ack) }),
+                _ => quiet(AckEnd { good: None }),
+            },
+            // "AckEnd: End or Prefix after a good Ack: report ack a, Wait; Gap: miss, Rest;
+            // else miss, Wait."
+            AckEnd { good } => match (signal, good) {
+                (End | Prefix, Some(ack)) => report(Wait, Report::Ack(ack)),
+                (Gap, _) => report(Rest, Report::Miss),
+                _ => report(Wait, Report::Miss),
+            },
+            // "Opened: Gap → Rest; another line signal → Wait; else → Addressed."
+            Opened => match signal {
+                Gap => quiet(Rest),
+                Start | End | Prefix => quiet(Wait),
+                _ => quiet(Addressed),
+            },
+            // "Addressed: Dest of itself → HeadOwn, and the node is entered as pending on the bus;
+            // Dest 63 → HeadAll; Gap → Rest; else Wait."
+            Addressed => match signal {
+                Dest(address) if address == own => (HeadOwn, Effect::Pending),
+                Dest(ALL_NODES) => quiet(HeadAll),
+                Gap => quiet(Rest),
+                _ => quiet(Wait),
+            },
+            // "HeadOwn / HeadAll: good Header → BodyOwn / BodyAll; else Owed / Wait.
+            // HeadAll on Gap → Rest."
+            HeadOwn => match signal {
+                Header(header, Check::Good) => quiet(BodyOwn { header }),
+                _ => quiet(Owed),
+            },
+            HeadAll => match signal {
+                Header(header, Check::Good) => quiet(BodyAll { header }),
+                Gap => quiet(Rest),
+                _ => quiet(Wait),
+            },
+            // "BodyOwn / BodyAll: Data, good or bad → TailOwn / TailAll; else Owed / Wait.
+            // BodyAll on Gap → Rest."
+            BodyOwn { header } => match signal {
+                Data(data, Check::Good) => quiet(TailOwn { header, data: Some(data) }),
+                Data(_, Check::Bad) => quiet(TailOwn { header, data: None }),
+                _ => quiet(Owed),
+            },
+            BodyAll { header } => match signal {
+                Data(data, Check::Good) => quiet(TailAll { header, data: Some(data) }),
+                Data(_, Check::Bad) => quiet(TailAll { header, data: None }),
+                Gap => quiet(Rest),
+                _ => quiet(Wait),
+            },
+            // "TailOwn: End or Prefix: report good h d, or dcrc h for bad data, and go to Told;
+            // else Owed."
+            TailOwn { header, data } => match (signal, data) {
+                (End | Prefix, Some(data)) => report(Told, Report::Good { header, data }),
+                (End | Prefix, None) => report(Told, Report::Dcrc { header }),
+                _ => quiet(Owed),
+            },
+            // "TailAll: End or Prefix: report broad h d if the data were good, else nothing, and go
+            // to Rest; Gap → Rest; else Wait."
+            TailAll { header, data } => match (signal, data) {
+                (End | Prefix, Some(data)) => report(Rest, Report::Broad { header, data }),
+                (End | Prefix | Gap, _) => quiet(Rest),
+                _ => quiet(Wait),
+            },
+            // "Wait: Gap → Rest; else stay. Owed stays."
+            Wait => match signal {
+                Gap => quiet(Rest),
+                _ => quiet(Wait),
+            },
+            // "Sending, Told, Answering, Acking, Holding, Spurious stay on every signal."
+            Owed | Sending { .. } | Told | Answering | Acking { .. } | Holding | Spurious => {
+                quiet(self)
+            }
+        }
+    }
+}

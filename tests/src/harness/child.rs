@@ -1,0 +1,153 @@
+//! Runs a program on a run file, and says how it ended and what it printed.
+
+use std::fs::{self, File};
+use std::io::{self, Read, Write};
+use std::path::{Path, PathBuf};
+use std::process::{Child, Command, ExitStatus, Stdio};
+use std::sync::{mpsc, Mutex};
+use std::thread;
+use std::time::Duration;
+
+/// A program that has not ended by then is taken not to end.
+const PATIENCE: Duration = Duration::from_secs(60);
+
+/// What a program gets on its standard input.
+pub enum Input<'a> {
+    File(&'a Path),
+    /// Through a pipe, in pieces of this many bytes.
+    Pipe(&'a [u8], usize),
+}
+
+pub struct Ran {
+    pub text: Vec<u8>,
+    /// None: it had to be stopped.
+    pub status: Option<ExitStatus>,
+}
+
+/// Runs the program; reads at most `limit` bytes of what it prints.
+pub fn run(program: &Path, input: Input, limit: usize) -> io::Result<Ran> {
+    let mut command = Command::new(program);
+    command.stdout(Stdio::piped());
+    match input {
+        Input::File(path) => command.stdin(File::open(path)?),
+        Input::Pipe(..) => command.stdin(Stdio::piped()),
+    };
+    let mut child = command.spawn()?;
+    let stdin = child.stdin.take();
+    let stdout = child.stdout.take();
+    let child = Mutex::new(child);
+    let stop = || child.lock().expect("no thread panics").kill();
+    let mut text = Vec::new();
+    let (ended, watch) = mpsc::channel::<()>();
+    let status = thread::scope(|scope| -> io::Result<Option<ExitStatus>> {
+        if let (Some(mut stdin), Input::Pipe(bytes, piece)) = (stdin, input) {
+            scope.spawn(move || {
+                // A program that refuses need not read on: an error here is none.
+                let _ = bytes.chunks(piece).try_for_each(|piece| stdin.write_all(piece));
+            });
+        }
+        let watchdog = scope.spawn(move || {
+            let late = watch.recv_timeout(PATIENCE) == Err(mpsc::RecvTimeoutError::Timeout);
+            if late {
+                let _ = stop();
+            }
+            late
+        });
+        if let Some(stdout) = stdout {
+            stdout.take(limit as u64 + 1).read_to_end(&mut text)?;
+        }
+        drop(ended);
+        let endless = text.len() > limit;
+        if endless {
+            stop()?;
+        }
+        let late = watchdog.join().expect("the watchdog does not panic");
+        // Its output is at its end: so is the program, or soon.
+        let status = wait(&child)?;
+        Ok(status.filter(|_| !late && !endless))
+    })?;
+    Ok(Ran { text, status })
+}
+
+/// Waits for the end of a program that has closed its output, and stops it if that never comes.
+fn wait(child: &Mutex<Child>) -> io::Result<Option<ExitStatus>> {
+    let mut child = child.lock().expect("no thread panics");
+    let mut pause = Duration::from_micros(20);
+    let mut waited = Duration::ZERO;
+    loop {
+        if let Some(status) = child.try_wait()? {
+            return Ok(Some(status));
+        }
+        if waited > PATIENCE {
+            child.kill()?;
+            child.wait()?;
+            return Ok(None);
+        }
+        thread::sleep(pause);
+        waited += pause;
+        pause = (pause * 2).min(Duration::from_millis(20));
+    }
+}
+
+/// What is wrong with how a program ran and what it printed, if anything.
+pub fn difference(ran: &Ran, expected: &[u8]) -> Option<String> {
+    match ran.status {
+        None => return Some("it did not end, or printed without end, and was stopped".into()),
+        Some(status) if !status.success() => {
+            return Some(format!("it ended with {status} and not with exit status 0"))
+        }
+        Some(_) if ran.text == expected => return None,
+        Some(_) => (),
+    }
+    let mut theirs = ran.text.split(|&byte| byte == b'\n');
+    let mut ours = expected.split(|&byte| byte == b'\n');
+    let mut line = 0;
+    loop {
+        line += 1;
+        let (their, our) = (theirs.next(), ours.next());
+        if their != our {
+            let show = |line: Option<&[u8]>| match line {
+                Some(line) => {
+                    format!("'{}'", String::from_utf8_lossy(&line[..line.len().min(200)]))
+                }
+                None => "the text is at its end".into(),
+            };
+            return Some(format!("line {line}: program: {}; model: {}", show(their), show(our)));
+        }
+        if their.is_none() {
+            return Some("the texts differ".into());
+        }
+    }
+}
+
+/// A directory of its own under the system's temporary one; removed at the end.
+pub struct Scratch {
+    path: PathBuf,
+}
+
+impl Scratch {
+    pub fn new() -> io::Result<Scratch> {
+        let path = std::env::temp_dir().join(format!("model-{}", std::process::id()));
+        fs::create_dir_all(&path)?;
+        Ok(Scratch { path })
+    }
+
+    pub fn file(&self, name: &str) -> PathBuf {
+        self.path.join(name)
+    }
+}
+
+impl Drop for Scratch {
+    fn drop(&mut self) {
+        let _ = fs::remove_dir_all(&self.path);
+    }
+}
+
+/// Keeps a file on which something went wrong, and says where.
+pub fn keep(name: &str, bytes: &[u8]) -> String {
+    let path = std::env::temp_dir().join(name);
+    match fs::write(&path, bytes) {
+        Ok(()) => format!("file kept as {}", path.display()),
+        Err(error) => format!("file could not be kept as {}: {error}", path.display()),
+    }
+}

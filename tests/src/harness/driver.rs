@@ -1,0 +1,201 @@
+//! Drives a bus at random: each time some open action, of every kind, so that a run goes on for as
+//! long as is wanted.
+
+use super::random::Random;
+use crate::bus::{Action, Bus, Mode, Outcome, Packet, Phase, Signal, ALL_NODES};
+
+/// How a run goes, in chances out of a hundred.
+#[derive(Clone, Copy, Debug)]
+pub struct Style {
+    /// A request into a buffer, or an arbitration, whatever the bus is doing.
+    pub aside: u64,
+    /// A Dest changed on its way.
+    pub dest_fault: u64,
+    /// A Dest that is changed arrives as the receiver's own address.
+    pub to_receiver: u64,
+    /// A Header, Data or Ack lost or changed on its way.
+    pub fault: u64,
+    /// A filler clock, where one is open.
+    pub filler: u64,
+    /// A respond with hold 1.
+    pub hold: u64,
+    /// A request to all nodes.
+    pub broadcast: u64,
+}
+
+impl Style {
+    /// Everything now and then: for long runs.
+    pub const MIXED: Style = Style {
+        aside: 5,
+        dest_fault: 1,
+        to_receiver: 50,
+        fault: 2,
+        filler: 20,
+        hold: 30,
+        broadcast: 25,
+    };
+
+    pub fn random(random: &mut Random, n: u8) -> Style {
+        // With many receivers a small chance for each is enough.
+        let faults = match n {
+            0..=6 => [0, 3, 15, 50],
+            7..=20 => [0, 1, 5, 40],
+            _ => [0, 1, 3, 30],
+        };
+        Style {
+            aside: random.pick(&[0, 2, 10, 30]),
+            dest_fault: random.pick(&faults),
+            to_receiver: random.pick(&[10, 50, 90]),
+            fault: random.pick(&faults),
+            filler: random.pick(&[0, 10, 40]),
+            hold: random.pick(&[10, 50, 90]),
+            broadcast: random.pick(&[5, 20, 60]),
+        }
+    }
+}
+
+pub struct Driver {
+    pub bus: Bus,
+    pub random: Random,
+    pub style: Style,
+}
+
+impl Driver {
+    pub fn new(bus: Bus, random: Random, style: Style) -> Driver {
+        Driver { bus, random, style }
+    }
+
+    /// Plays some open action on the bus, and says which.
+    pub fn play(&mut self) -> (Action, Outcome) {
+        loop {
+            // A refused one changes nothing, so another can be proposed.
+            let action = self.propose();
+            let outcome = self.bus.act(action);
+            if outcome.is_ok() {
+                return (action, outcome);
+            }
+        }
+    }
+
+    fn propose(&mut self) -> Action {
+        if self.random.percent(self.style.aside) {
+            return self.aside();
+        }
+        match self.bus.phase {
+            Phase::Idle => self.on_idle(),
+            Phase::Busy => self.on_busy(),
+            Phase::Delivering { signal, receiver, .. } => self.on_delivering(signal, receiver),
+            Phase::Granting => Action::Grant,
+            Phase::Gapping { .. } => Action::Gap,
+        }
+    }
+
+    fn any_node(&mut self) -> u8 {
+        self.random.below(self.bus.n.into()) as u8
+    }
+
+    fn packet(&mut self) -> Packet {
+        let all = self.random.percent(self.style.broadcast);
+        let address = if all { ALL_NODES } else { self.any_node() };
+        Packet { address, header: self.random.word(), data: self.random.word() }
+    }
+
+    fn request(&mut self, node: u8) -> Action {
+        Action::Request { node, packet: self.packet() }
+    }
+
+    fn aside(&mut self) -> Action {
+        let node = self.any_node();
+        if self.random.percent(40) {
+            Action::Arbitrate { node }
+        } else {
+            self.request(node)
+        }
+    }
+
+    fn on_idle(&mut self) -> Action {
+        let n = self.bus.n;
+        let start = self.any_node();
+        let ready = (0..n)
+            .map(|step| (start + step) % n)
+            .find(|&node| self.bus.node(node).buffer.is_some() && !self.bus.won.has(node));
+        let won = self.bus.won.any(n);
+        match ready {
+            Some(node) if self.random.percent(80) => Action::Arbitrate { node },
+            _ if won && self.random.percent(if ready.is_some() { 10 } else { 50 }) => Action::Reset,
+            _ => {
+                let node = self.any_node();
+                if self.bus.node(node).buffer.is_some() && won {
+                    Action::Reset
+                } else {
+                    self.request(node)
+                }
+            }
+        }
+    }
+
+    fn on_busy(&mut self) -> Action {
+        let holders = self.bus.holder;
+        let node = match self.bus.pick_holder(self.random.draw()) {
+            Some(node) => node,
+            None => return self.aside(),
+        };
+        match self.bus.node(node).mode {
+            Mode::Answering if !self.random.percent(self.style.filler) => Action::Respond {
+                node,
+                ack: self.random.below(16) as u8,
+                hold: self.random.percent(self.style.hold),
+            },
+            Mode::Holding
+                if !(holders.only(node, self.bus.n) && self.random.percent(self.style.filler)) =>
+            {
+                self.request(node)
+            }
+            _ => Action::Clock { node },
+        }
+    }
+
+    fn on_delivering(&mut self, signal: Signal, receiver: u8) -> Action {
+        match signal {
+            Signal::Dest(_) if self.random.percent(self.style.dest_fault) => {
+                let address = if self.random.percent(self.style.to_receiver) {
+                    receiver
+                } else if self.random.percent(self.style.broadcast) {
+                    ALL_NODES
+                } else {
+                    self.any_node()
+                };
+                Action::Change { address }
+            }
+            _ if signal.carries_check() && self.random.percent(self.style.fault) => {
+                if self.random.percent(50) {
+                    Action::Lose
+                } else {
+                    Action::Change { address: 0 }
+                }
+            }
+            // Now and then while the closing Prefix, or a filler, is still under way.
+            Signal::Prefix if self.random.percent(10) => match self.bus.pick_holder(0) {
+                Some(node) if self.bus.node(node).mode == Mode::Holding => self.request(node),
+                Some(node) if self.bus.node(node).mode == Mode::Answering => Action::Respond {
+                    node,
+                    ack: self.random.below(16) as u8,
+                    hold: self.random.percent(self.style.hold),
+                },
+                _ => Action::Pass,
+            },
+            _ => Action::Pass,
+        }
+    }
+}
+
+impl Bus {
+    /// Some holder, by the number given.
+    fn pick_holder(&self, number: u64) -> Option<u8> {
+        let count = self.holder.nodes(self.n).count() as u64;
+        match count {
+            0 => None,
+            _ => self.holder.nodes(self.n).nth((number % count) as usize),
+        }
+    }
+}

@@ -1,0 +1,113 @@
+//! Forward actions that are open: found by trying them.
+
+use super::random::Random;
+use crate::bus::{Action, Bus, Mode, Packet, Phase, Signal, ALL_NODES};
+
+/// Is some forward action open? Likely ones are tried first, then one of each kind at each node.
+pub fn some_open(bus: &Bus) -> bool {
+    let open = |action: &Action| bus.is_forward(*action) && bus.is_open(*action);
+    likely(bus).iter().any(open) || all_sorts(bus).iter().any(open)
+}
+
+/// One that the phase suggests.
+fn likely(bus: &Bus) -> Vec<Action> {
+    match bus.phase {
+        Phase::Idle => Vec::new(),
+        Phase::Delivering { .. } => vec![Action::Pass],
+        Phase::Granting => vec![Action::Grant],
+        Phase::Gapping { .. } => vec![Action::Gap],
+        Phase::Busy => bus
+            .holder
+            .nodes(bus.n)
+            .map(|node| match bus.node(node).mode {
+                Mode::Answering => Action::Respond { node, ack: 0, hold: false },
+                Mode::Holding => Action::Request { node, packet: Packet::default() },
+                _ => Action::Clock { node },
+            })
+            .collect(),
+    }
+}
+
+/// One of each kind, at each node.
+fn all_sorts(bus: &Bus) -> Vec<Action> {
+    let mut sorts = vec![Action::Pass, Action::Lose, Action::Grant, Action::Gap];
+    sorts.extend([0, 1, ALL_NODES].map(|address| Action::Change { address }));
+    for node in 0..bus.n {
+        sorts.push(Action::Request { node, packet: Packet::default() });
+        sorts.push(Action::Respond { node, ack: 0, hold: false });
+        sorts.push(Action::Clock { node });
+    }
+    sorts
+}
+
+/// How a continuation of forward actions is chosen.
+#[derive(Clone, Copy, Debug)]
+pub enum Choice {
+    /// At random, with so many faults in a hundred.
+    Random { faults: u64 },
+    /// As long as it can be made: every Dest misleads its receiver, every respond holds.
+    Longest,
+}
+
+/// Some forward action that is open, if one is.
+pub fn choose(bus: &Bus, choice: Choice, random: &mut Random) -> Option<Action> {
+    let mut choices: Vec<Action> = Vec::new();
+    match bus.phase {
+        Phase::Delivering { signal, receiver, .. } => {
+            match choice {
+                Choice::Longest => {
+                    if let Signal::Dest(_) = signal {
+                        choices.push(Action::Change { address: receiver });
+                    }
+                }
+                Choice::Random { faults } if random.percent(faults) => match signal {
+                    Signal::Dest(_) => {
+                        let node = random.below(bus.n.into()) as u8;
+                        let address = random.pick(&[receiver, receiver, node, ALL_NODES]);
+                        choices.push(Action::Change { address });
+                    }
+                    _ => {
+                        choices.push(random.pick(&[Action::Lose, Action::Change { address: 0 }]));
+                    }
+                },
+                // A forward action need not wait for the passes of a filler.
+                Choice::Random { .. } if signal == Signal::Prefix && random.percent(20) => {
+                    choices.extend(at_holders(bus, choice, random));
+                }
+                Choice::Random { .. } => (),
+            }
+            choices.push(Action::Pass);
+        }
+        Phase::Busy => choices = at_holders(bus, choice, random),
+        _ => choices = likely(bus),
+    }
+    choices.into_iter().find(|&action| bus.is_forward(action) && bus.is_open(action))
+}
+
+/// What the holders can do, in some order.
+fn at_holders(bus: &Bus, choice: Choice, random: &mut Random) -> Vec<Action> {
+    let longest = matches!(choice, Choice::Longest);
+    let mut actions: Vec<Action> = bus
+        .holder
+        .nodes(bus.n)
+        .map(|node| match bus.node(node).mode {
+            Mode::Answering => Action::Respond {
+                node,
+                ack: random.below(16) as u8,
+                hold: longest || random.percent(50),
+            },
+            Mode::Holding => {
+                let other = random.below(bus.n.into()) as u8;
+                let address = random.pick(&[other, other, ALL_NODES]);
+                let packet = Packet { address, header: random.word(), data: random.word() };
+                Action::Request { node, packet }
+            }
+            _ => Action::Clock { node },
+        })
+        .collect();
+    if !actions.is_empty() {
+        let turn = random.below(actions.len() as u64) as usize;
+        actions.rotate_left(turn);
+    }
+    actions
+}

@@ -1,0 +1,379 @@
+//! What a series of runs has hit, and how often.
+
+use std::collections::BTreeMap;
+use std::fmt::Write;
+
+use super::ways::Way;
+use crate::bus::{Action, Bus, Check, Mode, Phase, Record, Report, Reported, Signal, ALL_NODES};
+
+/// Refusals that a file can meet: all but 12.
+const REFUSALS: [u8; 11] = [1, 2, 3, 4, 5, 6, 7, 8, 9, 10, 11];
+
+const REPORTS: [&str; 8] = ["won", "lost", "sent", "ack", "miss", "good", "dcrc", "broad"];
+
+/// The modes, those with a good and a bad case taken apart.
+const MODES: [&str; 23] = [
+    "Rest",
+    "Sending",
+    "AwaitAck",
+    "AckBody",
+    "AckEnd good",
+    "AckEnd bad",
+    "Opened",
+    "Addressed",
+    "HeadOwn",
+    "HeadAll",
+    "BodyOwn",
+    "BodyAll",
+    "TailOwn good",
+    "TailOwn bad",
+    "TailAll good",
+    "TailAll bad",
+    "Wait",
+    "Owed",
+    "Told",
+    "Answering",
+    "Acking",
+    "Holding",
+    "Spurious",
+];
+
+const SIGNALS: usize = 14;
+
+const EVENTS: [&str; 17] = [
+    "Dest changed",
+    "Header lost",
+    "Header changed",
+    "Data lost",
+    "Data changed",
+    "Ack lost",
+    "Ack changed",
+    "Header bad for a misled node",
+    "filler clock",
+    "request into a buffer, bus idle",
+    "request into a buffer, bus not idle",
+    "request from Holding",
+    "respond with hold 0",
+    "respond with hold 1",
+    "lost by the won mark",
+    "reset",
+    "several holders",
+];
+
+fn mode_class(mode: Mode) -> usize {
+    match mode {
+        Mode::Rest => 0,
+        Mode::Sending { .. } => 1,
+        Mode::AwaitAck => 2,
+        Mode::AckBody => 3,
+        Mode::AckEnd { good: Some(_) } => 4,
+        Mode::AckEnd { good: None } => 5,
+        Mode::Opened => 6,
+        Mode::Addressed => 7,
+        Mode::HeadOwn => 8,
+        Mode::HeadAll => 9,
+        Mode::BodyOwn { .. } => 10,
+        Mode::BodyAll { .. } => 11,
+        Mode::TailOwn { data: Some(_), .. } => 12,
+        Mode::TailOwn { data: None, .. } => 13,
+        Mode::TailAll { data: Some(_), .. } => 14,
+        Mode::TailAll { data: None, .. } => 15,
+        Mode::Wait => 16,
+        Mode::Owed => 17,
+        Mode::Told => 18,
+        Mode::Answering => 19,
+        Mode::Acking { .. } => 20,
+        Mode::Holding => 21,
+        Mode::Spurious => 22,
+    }
+}
+
+fn signal_class(signal: Signal, own: u8) -> usize {
+    match signal {
+        Signal::Start => 0,
+        Signal::End => 1,
+        Signal::Prefix => 2,
+        Signal::Gap => 3,
+        Signal::Dhead => 4,
+        Signal::Dest(address) if address == own => 5,
+        Signal::Dest(ALL_NODES) => 6,
+        Signal::Dest(_) => 7,
+        Signal::Header(_, Check::Good) => 8,
+        Signal::Header(_, Check::Bad) => 9,
+        Signal::Data(_, Check::Good) => 10,
+        Signal::Data(_, Check::Bad) => 11,
+        Signal::Ack(_, Check::Good) => 12,
+        Signal::Ack(_, Check::Bad) => 13,
+    }
+}
+
+/// The cells of the reception chart (mode and signal, 322 of them) that were met.
+#[derive(Clone)]
+pub struct Cells([[bool; SIGNALS]; MODES.len()]);
+
+impl Default for Cells {
+    fn default() -> Cells {
+        Cells([[false; SIGNALS]; MODES.len()])
+    }
+}
+
+impl Cells {
+    /// Enters the cell of an action that is open on this bus, if a signal is received.
+    pub fn enter(&mut self, bus: &Bus, action: Action) {
+        let (node, signal) = match (action, bus.phase) {
+            (Action::Gap, Phase::Gapping { node }) => (node, Signal::Gap),
+            _ => match bus.arrival(action) {
+                Ok((node, Some(signal))) => (node, signal),
+                _ => return,
+            },
+        };
+        self.0[mode_class(bus.node(node).mode)][signal_class(signal, node)] = true;
+    }
+
+    pub fn merge(&mut self, other: &Cells) {
+        for (row, other) in self.0.iter_mut().zip(&other.0) {
+            for (cell, other) in row.iter_mut().zip(other) {
+                *cell |= other;
+            }
+        }
+    }
+
+    pub fn count(&self) -> usize {
+        self.0.iter().flatten().filter(|&&met| met).count()
+    }
+}
+
+/// Counts by name; the names are those that must be hit.
+#[derive(Clone)]
+struct Counts {
+    title: &'static str,
+    names: Vec<String>,
+    hits: Vec<u64>,
+}
+
+impl Counts {
+    fn new(title: &'static str, names: impl IntoIterator<Item = impl ToString>) -> Counts {
+        let names: Vec<String> = names.into_iter().map(|name| name.to_string()).collect();
+        let hits = vec![0; names.len()];
+        Counts { title, names, hits }
+    }
+
+    fn missing(&self) -> impl Iterator<Item = String> + '_ {
+        let missed = self.names.iter().zip(&self.hits).filter(|(_, &hits)| hits == 0);
+        missed.map(|(name, _)| format!("{} {name}", self.title))
+    }
+
+    fn print(&self, text: &mut String) {
+        let _ = writeln!(text, "{} hit:", self.title);
+        for (name, hits) in self.names.iter().zip(&self.hits) {
+            let _ = writeln!(text, "  {hits:>9}  {name}");
+        }
+    }
+}
+
+#[derive(Clone)]
+pub struct Tally {
+    pub files: u64,
+    pub actions: u64,
+    pub bytes_compared: u64,
+    /// Continuations of forward actions that were followed until idle.
+    pub continuations: u64,
+    /// Those that took all but one of the 18n.
+    pub longest_continuations: u64,
+    refusals: Counts,
+    reports: Counts,
+    kinds: Counts,
+    modes: Counts,
+    events: Counts,
+    ways: Counts,
+    cells: Cells,
+}
+
+impl Tally {
+    pub fn new() -> Tally {
+        Tally {
+            files: 0,
+            actions: 0,
+            bytes_compared: 0,
+            continuations: 0,
+            longest_continuations: 0,
+            refusals: Counts::new("refusals", REFUSALS),
+            reports: Counts::new("reports", REPORTS),
+            kinds: Counts::new("kinds accepted", 1..=10),
+            modes: Counts::new("node modes entered", MODES),
+            events: Counts::new("events", EVENTS),
+            ways: Counts::new("ways", Way::all()),
+            cells: Cells::default(),
+        }
+    }
+
+    /// A file made in the way with this place in `Way::all()`.
+    pub fn enter_way(&mut self, place: usize) {
+        self.ways.hits[place] += 1;
+    }
+
+    /// The refusal that a printed text ends with, if any.
+    pub fn enter_text(&mut self, text: &[u8]) {
+        self.files += 1;
+        self.bytes_compared += text.len() as u64;
+        if let Some(number) = last_refusal(text) {
+            self.refusals.hits[usize::from(number) - 1] += 1;
+        }
+    }
+
+    /// An accepted action, with the bus as it was before and after.
+    pub fn enter_action(
+        &mut self,
+        before: &Bus,
+        record: &Record,
+        reported: Option<Reported>,
+        after: &Bus,
+    ) {
+        self.actions += 1;
+        self.kinds.hits[usize::from(record.kind) - 1] += 1;
+        if let Some(Reported { report, .. }) = reported {
+            let place = REPORTS.iter().position(|&word| word == report.word());
+            self.reports.hits[place.expect("every report has its place")] += 1;
+        }
+        for node in 0..after.n {
+            let mode = after.node(node).mode;
+            if mode_class(mode) != mode_class(before.node(node).mode) {
+                self.modes.hits[mode_class(mode)] += 1;
+            }
+        }
+        if let Ok(action) = record.look(before.n) {
+            self.cells.enter(before, action);
+            if let Some(event) = event(before, action, reported) {
+                self.enter_event(event);
+            }
+            if after.holder.nodes(after.n).nth(1).is_some() {
+                self.enter_event("several holders");
+            }
+        }
+    }
+
+    fn enter_event(&mut self, event: &str) {
+        let place = EVENTS.iter().position(|&name| name == event);
+        self.events.hits[place.expect("every event has its place")] += 1;
+    }
+
+    pub fn merge(&mut self, other: &Tally) {
+        self.files += other.files;
+        self.actions += other.actions;
+        self.bytes_compared += other.bytes_compared;
+        self.continuations += other.continuations;
+        self.longest_continuations += other.longest_continuations;
+        self.cells.merge(&other.cells);
+        let others = other.counts();
+        for (counts, other) in self.counts_mut().into_iter().zip(others) {
+            for (hits, other) in counts.hits.iter_mut().zip(&other.hits) {
+                *hits += other;
+            }
+        }
+    }
+
+    fn counts(&self) -> [&Counts; 6] {
+        [&self.refusals, &self.reports, &self.kinds, &self.modes, &self.events, &self.ways]
+    }
+
+    fn counts_mut(&mut self) -> [&mut Counts; 6] {
+        [
+            &mut self.refusals,
+            &mut self.reports,
+            &mut self.kinds,
+            &mut self.modes,
+            &mut self.events,
+            &mut self.ways,
+        ]
+    }
+
+    /// Everything that should have been hit and was not.
+    pub fn missing(&self) -> Vec<String> {
+        self.counts().into_iter().flat_map(Counts::missing).collect()
+    }
+
+    pub fn print(&self) -> String {
+        let mut text = String::new();
+        for counts in &self.counts()[..5] {
+            counts.print(&mut text);
+        }
+        self.print_ways(&mut text);
+        let _ = writeln!(text, "cells of the reception chart met: {} of 322", self.cells.count());
+        let _ = writeln!(
+            text,
+            "{} files, {} actions accepted, {} bytes of text equal; {} continuations idle within 18n, {} of them after 18n - 1",
+            self.files, self.actions, self.bytes_compared, self.continuations, self.longest_continuations
+        );
+        text
+    }
+}
+
+impl Tally {
+    /// The ways by the refusal that they aim at: how many there are, and how many files of each.
+    fn print_ways(&self, text: &mut String) {
+        let mut groups: BTreeMap<&'static str, (u64, u64, u64)> = BTreeMap::new();
+        for (way, &hits) in Way::all().into_iter().zip(&self.ways.hits) {
+            let group = groups.entry(way.aim()).or_insert((0, u64::MAX, 0));
+            *group = (group.0 + 1, group.1.min(hits), group.2.max(hits));
+        }
+        let _ = writeln!(text, "ways of making a file:");
+        for (aim, (ways, least, most)) in groups {
+            let _ = writeln!(text, "  {ways:>9}  {aim}: {least} to {most} files each");
+        }
+    }
+}
+
+impl Default for Tally {
+    fn default() -> Tally {
+        Tally::new()
+    }
+}
+
+/// What the list of events calls this accepted action.
+fn event(bus: &Bus, action: Action, reported: Option<Reported>) -> Option<&'static str> {
+    let signal = match bus.phase {
+        Phase::Delivering { signal, .. } => Some(signal),
+        _ => None,
+    };
+    let event = match (action, signal) {
+        (Action::Change { .. }, Some(Signal::Dest(_))) => "Dest changed",
+        (Action::Lose, Some(Signal::Header(..))) => "Header lost",
+        (Action::Change { .. }, Some(Signal::Header(..))) => "Header changed",
+        (Action::Lose, Some(Signal::Data(..))) => "Data lost",
+        (Action::Change { .. }, Some(Signal::Data(..))) => "Data changed",
+        (Action::Lose, Some(Signal::Ack(..))) => "Ack lost",
+        (Action::Change { .. }, Some(Signal::Ack(..))) => "Ack changed",
+        (Action::Pass, Some(Signal::Header(..)))
+            if matches!(bus.arrival(action), Ok((_, Some(Signal::Header(_, Check::Bad))))) =>
+        {
+            "Header bad for a misled node"
+        }
+        (Action::Clock { .. }, _) if bus.is_filler(action) => "filler clock",
+        (Action::Request { .. }, _) if bus.is_forward(action) => "request from Holding",
+        (Action::Request { .. }, _) if bus.phase == Phase::Idle => {
+            "request into a buffer, bus idle"
+        }
+        (Action::Request { .. }, _) => "request into a buffer, bus not idle",
+        (Action::Respond { hold: false, .. }, _) => "respond with hold 0",
+        (Action::Respond { hold: true, .. }, _) => "respond with hold 1",
+        (Action::Arbitrate { .. }, _)
+            if bus.phase == Phase::Idle
+                && reported.is_some_and(|reported| reported.report == Report::Lost) =>
+        {
+            "lost by the won mark"
+        }
+        (Action::Reset, _) => "reset",
+        _ => return None,
+    };
+    Some(event)
+}
+
+/// The number in a last line `refused COUNT NUMBER`.
+pub fn last_refusal(text: &[u8]) -> Option<u8> {
+    let text = std::str::from_utf8(text).ok()?;
+    let words: Vec<&str> = text.lines().next_back()?.split(' ').collect();
+    match words[..] {
+        ["refused", _, number] => number.parse().ok(),
+        _ => None,
+    }
+}

@@ -1,0 +1,156 @@
+//! `model walk`: one transaction from a fresh bus, walked through whole. Node 0 has a request to
+//! each possible address and wins; then every interleaving of all open actions of kinds 3 to 9 and
+//! of some requests from Holding.
+
+use std::collections::HashMap;
+
+use super::tally::Cells;
+use crate::bus::{Action, Bus, Marks, Mode, Node, Packet, Phase, Report, ALL_NODES};
+
+/// A state, without the records from n on: what is looked up.
+#[derive(PartialEq, Eq, Hash)]
+struct Key {
+    phase: Phase,
+    marks: [Marks; 4],
+    nodes: Box<[Node]>,
+}
+
+impl Key {
+    fn of(bus: &Bus) -> Key {
+        Key {
+            phase: bus.phase,
+            marks: [bus.won, bus.pending, bus.holder, bus.misled],
+            nodes: bus.nodes[..usize::from(bus.n)].into(),
+        }
+    }
+}
+
+/// What is known of a state that was reached.
+#[derive(Clone, Copy)]
+enum Known {
+    /// The ways on from it are being walked.
+    Open,
+    /// So many forward actions on the longest way to Idle.
+    Longest(u32),
+}
+
+#[derive(Default)]
+struct Walk {
+    known: HashMap<Key, Known>,
+    /// States behind filler clocks, to be walked from on their own.
+    behind_fillers: Vec<Bus>,
+    cells: Cells,
+}
+
+/// The requests from Holding that are tried: to each address, and a second packet to the last.
+fn packets(n: u8) -> Vec<Packet> {
+    let mut packets: Vec<Packet> =
+        addresses(n).map(|address| Packet { address, header: 3, data: 4 }).collect();
+    packets.push(Packet { address: ALL_NODES, header: 0, data: u32::MAX });
+    packets
+}
+
+fn addresses(n: u8) -> impl Iterator<Item = u8> {
+    (0..n).chain([ALL_NODES])
+}
+
+/// All actions of kinds 3 to 9, and some requests.
+fn candidates(bus: &Bus) -> Vec<Action> {
+    let n = bus.n;
+    let mut actions = vec![Action::Pass, Action::Lose, Action::Grant, Action::Gap];
+    actions.extend(addresses(n).map(|address| Action::Change { address }));
+    for node in 0..n {
+        actions.push(Action::Clock { node });
+        for ack in 0..16 {
+            actions.extend([false, true].map(|hold| Action::Respond { node, ack, hold }));
+        }
+        if bus.node(node).mode == Mode::Holding {
+            actions.extend(packets(n).into_iter().map(|packet| Action::Request { node, packet }));
+        }
+    }
+    actions
+}
+
+impl Walk {
+    /// The longest way of forward actions from here to Idle. Its depth is that way's length.
+    fn longest(&mut self, bus: &Bus) -> Result<u32, String> {
+        match self.known.get(&Key::of(bus)) {
+            Some(Known::Longest(length)) => return Ok(*length),
+            Some(Known::Open) => {
+                return Err(format!("forward actions go round in a ring: {bus:?}"))
+            }
+            None => (),
+        }
+        self.known.insert(Key::of(bus), Known::Open);
+        let mut longest = None;
+        for action in candidates(bus) {
+            let mut next = bus.clone();
+            if next.act(action).is_err() {
+                continue;
+            }
+            self.cells.enter(bus, action);
+            if bus.is_forward(action) {
+                let length = 1 + self.longest(&next)?;
+                longest = longest.max(Some(length));
+            } else if !self.known.contains_key(&Key::of(&next)) {
+                self.behind_fillers.push(next);
+            }
+        }
+        let length = match (longest, bus.phase) {
+            (None, Phase::Idle) => 0,
+            (Some(length), phase) if phase != Phase::Idle => length,
+            _ => return Err(format!("a dead end, or a forward action on an idle bus: {bus:?}")),
+        };
+        if bus.phase == Phase::Idle && (0..bus.n).any(|node| bus.node(node).mode != Mode::Rest) {
+            return Err(format!("idle, and not every node rests: {bus:?}"));
+        }
+        self.known.insert(Key::of(bus), Known::Longest(length));
+        Ok(length)
+    }
+
+    /// The longest way from any state reached.
+    fn over_all(&mut self, root: Bus) -> Result<u32, String> {
+        let mut longest = 0;
+        self.behind_fillers.push(root);
+        while let Some(bus) = self.behind_fillers.pop() {
+            longest = longest.max(self.longest(&bus)?);
+        }
+        Ok(longest)
+    }
+}
+
+/// Walks from node 0's request to this address: how many states, the longest way, the cells met.
+fn transaction(n: u8, address: u8) -> Result<(usize, u32, Cells), String> {
+    let mut bus = Bus::fresh(n).map_err(|refusal| format!("n refused: {}", refusal.number()))?;
+    let packet = Packet { address, header: 1, data: 2 };
+    let accepted = bus.act(Action::Request { node: 0, packet });
+    let won = bus.act(Action::Arbitrate { node: 0 });
+    match (accepted, won) {
+        (Ok(None), Ok(Some(reported))) if reported.report == Report::Won => (),
+        _ => return Err("node 0 did not win a fresh bus".into()),
+    }
+    let mut walk = Walk::default();
+    let longest = walk.over_all(bus)?;
+    Ok((walk.known.len(), longest, walk.cells))
+}
+
+pub fn walk(n: u8) -> Result<String, String> {
+    let mut text = String::new();
+    let (mut states, mut longest, mut cells) = (0, 0, Cells::default());
+    for address in addresses(n) {
+        let (some, length, met) = transaction(n, address)?;
+        text += &format!("n = {n}, 0 to {address}: {some} states, longest way to Idle {length}\n");
+        states += some;
+        longest = longest.max(length);
+        cells.merge(&met);
+    }
+    let cells = cells.count();
+    text += &format!(
+        "n = {n}: {states} states, {cells} of 322 cells met, no dead end, longest way of forward actions to Idle {longest}\n"
+    );
+    if longest == 18 * u32::from(n) - 1 {
+        Ok(text)
+    } else {
+        Err(format!("{text}n = {n}: the longest way is not 18n - 1 = {}", 18 * u32::from(n) - 1))
+    }
+}

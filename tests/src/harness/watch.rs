@@ -1,0 +1,205 @@
+//! Demand 3 watched on a run, by books kept straight from "The words of demand 3".
+
+use super::forward;
+use crate::bus::{Action, Bus, Mode, Outcome, Packet, Phase, Record, Refusal, Report, Reported};
+
+/// What was broken, in words.
+pub type Violation = String;
+
+/// A report good, dcrc or broad.
+#[derive(Clone, Copy)]
+struct Told {
+    when: usize,
+    node: u8,
+    report: Report,
+}
+
+/// An accepted respond.
+#[derive(Clone, Copy)]
+struct Respond {
+    when: usize,
+    node: u8,
+    ack: u8,
+}
+
+/// A request that has started.
+#[derive(Clone, Copy)]
+struct Started {
+    packet: Packet,
+    /// How many times nodes were told, and how many responds accepted, before it started.
+    told: usize,
+    responds: usize,
+    confirmations: usize,
+}
+
+/// The books of one node.
+#[derive(Clone, Copy, Default)]
+struct Books {
+    /// "its node's last accepted respond had hold 1 and no request of that node was accepted since"
+    starts_at_once: bool,
+    /// Accepted and not started.
+    waiting: Option<Packet>,
+    /// "the request that its node started last"
+    last: Option<Started>,
+    /// A request started before that one got another number of confirmations than one, and as all
+    /// later ones belong to requests started later, that stays so.
+    unsettled: bool,
+}
+
+#[derive(Clone)]
+pub struct Watch {
+    pub bus: Bus,
+    /// How many actions were handed in.
+    when: usize,
+    told: Vec<Told>,
+    responds: Vec<Respond>,
+    books: Vec<Books>,
+}
+
+impl Watch {
+    /// "The first is handed the fresh bus for n, each later one the state that the step before
+    /// returned".
+    pub fn new(bus: Bus) -> Watch {
+        let books = vec![Books::default(); bus.n.into()];
+        Watch { bus, when: 0, told: Vec::new(), responds: Vec::new(), books }
+    }
+
+    /// Plays one action and looks at everything that demand 3 says.
+    pub fn step(&mut self, record: &Record) -> Result<Outcome, Violation> {
+        let before = self.bus.clone();
+        let outcome = self.bus.step(record);
+        self.when += 1;
+        match outcome {
+            Ok(reported) => {
+                let action = record
+                    .look(before.n)
+                    .map_err(|refusal| format!("accepted though refusal {}", refusal.number()))?;
+                self.enter_action(action)?;
+                if let Some(reported) = reported {
+                    self.enter_report(reported)?;
+                }
+            }
+            Err(Refusal::State) => return Err("the step before left no state: 12".into()),
+            Err(_) if self.bus != before => return Err("a refused action left its mark".into()),
+            Err(_) => (),
+        }
+        self.look()?;
+        Ok(outcome)
+    }
+
+    fn enter_action(&mut self, action: Action) -> Result<(), Violation> {
+        match action {
+            Action::Respond { node, ack, hold } => {
+                self.responds.push(Respond { when: self.when, node, ack });
+                self.books[usize::from(node)].starts_at_once = hold;
+            }
+            // "A request *starts* at once if its node's last accepted respond had hold 1 and no
+            // request of that node was accepted since. Any other starts with its node's next `won`"
+            Action::Request { node, packet } => {
+                let books = &mut self.books[usize::from(node)];
+                if std::mem::take(&mut books.starts_at_once) {
+                    self.start(node, packet);
+                } else if books.waiting.replace(packet).is_some() {
+                    return Err(format!("node {node}: one buffer for two waiting requests"));
+                }
+            }
+            _ => (),
+        }
+        Ok(())
+    }
+
+    fn start(&mut self, node: u8, packet: Packet) {
+        let (told, responds) = (self.told.len(), self.responds.len());
+        let books = &mut self.books[usize::from(node)];
+        if books.last.is_some_and(|last| last.confirmations != 1) {
+            books.unsettled = true;
+        }
+        books.last = Some(Started { packet, told, responds, confirmations: 0 });
+    }
+
+    fn enter_report(&mut self, reported: Reported) -> Result<(), Violation> {
+        let Reported { node, report } = reported;
+        if report.tells() {
+            self.told.push(Told { when: self.when, node, report });
+        }
+        if report == Report::Won {
+            if let Some(packet) = self.books[usize::from(node)].waiting.take() {
+                self.start(node, packet);
+            }
+        }
+        if report.is_confirmation() {
+            // "It belongs to the request that its node started last."
+            let Some(last) = &mut self.books[usize::from(node)].last else {
+                return Err(format!("node {node}: {} with no request started", report.word()));
+            };
+            last.confirmations += 1;
+            let last = *last;
+            if let Report::Ack(ack) = report {
+                self.look_at_ack(last, ack)
+                    .map_err(|why| format!("node {node}: ack {ack}: {why}"))?;
+            }
+        }
+        Ok(())
+    }
+
+    /// "From a request's start to its `ack a` there is exactly one of these on the whole bus: the
+    /// addressed node's, `good h d` or `dcrc h`, with the request's own header and data. In that
+    /// stretch exactly one respond is accepted: that node's, after it was told, with a."
+    fn look_at_ack(&self, request: Started, ack: u8) -> Result<(), Violation> {
+        let [told] = self.told[request.told..] else {
+            let count = self.told.len() - request.told;
+            return Err(format!("{count} times told since the request started"));
+        };
+        let Packet { address, header, data } = request.packet;
+        if told.node != address {
+            return Err(format!("node {} was told, not {address}", told.node));
+        }
+        if told.report != (Report::Good { header, data })
+            && told.report != (Report::Dcrc { header })
+        {
+            return Err(format!("told {:?}, not of the packet", told.report));
+        }
+        let [respond] = self.responds[request.responds..] else {
+            let count = self.responds.len() - request.responds;
+            return Err(format!("{count} responds since the request started"));
+        };
+        if respond.node != address || respond.ack != ack || respond.when <= told.when {
+            return Err(format!(
+                "the respond is node {}'s with {}, at {} when it was told at {}",
+                respond.node, respond.ack, respond.when, told.when
+            ));
+        }
+        Ok(())
+    }
+
+    /// What holds after each action, and of a fresh bus.
+    pub fn look(&self) -> Result<(), Violation> {
+        // "until then the buffer holds its address, header and data"
+        for (node, books) in (0..self.bus.n).zip(&self.books) {
+            if books.waiting.is_some() && self.bus.node(node).buffer != books.waiting {
+                return Err(format!("node {node}: the buffer does not hold the waiting request"));
+            }
+        }
+        if self.bus.phase == Phase::Idle {
+            self.look_idle()
+        } else if forward::some_open(&self.bus) {
+            Ok(())
+        } else {
+            Err("not idle, and no forward action is open".into())
+        }
+    }
+
+    /// "If it is idle, every node rests, and each accepted request has had exactly one confirmation
+    /// or still waits in its buffer with none."
+    fn look_idle(&self) -> Result<(), Violation> {
+        for (node, books) in (0..self.bus.n).zip(&self.books) {
+            if self.bus.node(node).mode != Mode::Rest {
+                return Err(format!("idle, and node {node} does not rest"));
+            }
+            if books.unsettled || books.last.is_some_and(|last| last.confirmations != 1) {
+                return Err(format!("idle, and a request of node {node} has not one confirmation"));
+            }
+        }
+        Ok(())
+    }
+}

@@ -1,0 +1,320 @@
+//! The ways in which files are made: runs of open actions, runs with one wrong action, damaged
+//! files. Each way knows how the file must end, from document 01 and not from the model.
+
+mod closed;
+mod damage;
+
+use std::fmt;
+
+use super::driver::{Driver, Style};
+use super::random::Random;
+use crate::bus::{Action, Bus, Packet, Record, ALL_NODES};
+use crate::runfile::{self, BLOCK, FULL};
+pub use closed::Closed;
+pub use damage::Damage;
+
+/// A file, the list of actions behind it, and how it must end.
+pub struct Case {
+    pub n: u8,
+    pub records: Vec<Record>,
+    pub bytes: Vec<u8>,
+    pub end: End,
+}
+
+#[derive(Clone, Copy, PartialEq, Eq, Debug)]
+pub enum End {
+    Done {
+        accepted: usize,
+    },
+    Refused {
+        accepted: usize,
+        number: u8,
+    },
+    /// Damage without a plan.
+    Either,
+}
+
+#[derive(Clone, Copy, PartialEq, Eq, Debug)]
+pub enum Field {
+    Node,
+    Address,
+    Ack,
+    Hold,
+    Zero(usize),
+    Header,
+    Data,
+}
+
+const FIELDS: [Field; 9] = [
+    Field::Node,
+    Field::Address,
+    Field::Ack,
+    Field::Hold,
+    Field::Zero(0),
+    Field::Zero(1),
+    Field::Zero(2),
+    Field::Header,
+    Field::Data,
+];
+
+/// Does the kind name the field?
+fn names(kind: u8, field: Field) -> bool {
+    match field {
+        Field::Node => (1..=4).contains(&kind),
+        Field::Address => kind == 1 || kind == 7,
+        Field::Ack | Field::Hold => kind == 3,
+        Field::Header | Field::Data => kind == 1,
+        Field::Zero(_) => false,
+    }
+}
+
+#[derive(Clone, Copy, PartialEq, Eq, Debug)]
+pub enum Way {
+    /// A run of open actions.
+    Open,
+    /// One of just so many.
+    OpenOf(usize),
+    /// 2
+    Kind(u8),
+    /// 3
+    NotNamed {
+        kind: u8,
+        field: Field,
+    },
+    /// 4
+    NodeTooHigh {
+        kind: u8,
+    },
+    /// 5
+    NoAddress {
+        kind: u8,
+    },
+    /// 6
+    Ack(u8),
+    Hold(u8),
+    /// 7
+    Closed(Closed),
+    Damaged(Damage),
+}
+
+impl fmt::Display for Way {
+    fn fmt(&self, out: &mut fmt::Formatter<'_>) -> fmt::Result {
+        write!(out, "{self:?}")
+    }
+}
+
+impl Way {
+    /// Every way there is, `Open` first.
+    pub fn all() -> Vec<Way> {
+        let mut ways = vec![Way::Open];
+        ways.extend([1, 2, 30, 31, 32, 61, 62, 63, 93, 94].map(Way::OpenOf));
+        ways.extend([0, 11, 12, 128, 255].map(Way::Kind));
+        for kind in 1..=10 {
+            let fields = FIELDS.into_iter().filter(|&field| !names(kind, field));
+            ways.extend(fields.map(|field| Way::NotNamed { kind, field }));
+        }
+        ways.extend([1, 2, 3, 4].map(|kind| Way::NodeTooHigh { kind }));
+        ways.extend([1, 7].map(|kind| Way::NoAddress { kind }));
+        ways.extend([16, 17, 128, 255].map(Way::Ack));
+        ways.extend([2, 3, 128, 255].map(Way::Hold));
+        ways.extend(Closed::all().into_iter().map(Way::Closed));
+        ways.extend(Damage::all().into_iter().map(Way::Damaged));
+        ways
+    }
+
+    /// What a file made in this way aims at.
+    pub fn aim(self) -> &'static str {
+        match self {
+            Way::Open => "runs of open actions",
+            Way::OpenOf(_) => "runs of open actions, block boundaries",
+            Way::Kind(_) => "refusal 2",
+            Way::NotNamed { .. } => "refusal 3",
+            Way::NodeTooHigh { .. } => "refusal 4",
+            Way::NoAddress { .. } => "refusal 5",
+            Way::Ack(_) | Way::Hold(_) => "refusal 6",
+            Way::Closed(_) => "refusal 7",
+            Way::Damaged(_) => "damaged files",
+        }
+    }
+
+    /// Makes a file in this way.
+    pub fn make(self, random: &mut Random) -> Case {
+        match self {
+            Way::Open => {
+                let n = nodes(random);
+                let actions = match random.below(20) {
+                    0..=9 => random.between(1, 200),
+                    10..=17 => random.between(200, 1500),
+                    _ => random.between(1500, 6000),
+                };
+                open_run(random, n, actions as usize)
+            }
+            Way::OpenOf(actions) => {
+                let n = nodes(random);
+                open_run(random, n, actions)
+            }
+            Way::Kind(kind) => wrong_record(random, 2, |random, n| {
+                let any = any_record(random, n);
+                let record = random.pick(&[any, Record::default()]);
+                Record { kind, ..record }
+            }),
+            Way::NotNamed { kind, field } => wrong_record(random, 3, |random, n| {
+                let mut record = right_record(random, n, kind);
+                // The numbers after 3 too, now and then.
+                if random.percent(30) {
+                    spoil_named(random, n, &mut record);
+                }
+                set_not_zero(random, &mut record, field);
+                record
+            }),
+            Way::NodeTooHigh { kind } => wrong_record(random, 4, |random, n| {
+                let mut record = right_record(random, n, kind);
+                if random.percent(30) {
+                    spoil_named(random, n, &mut record);
+                }
+                record.node = too_high(random, n);
+                record
+            }),
+            Way::NoAddress { kind } => wrong_record(random, 5, |random, n| {
+                let record = right_record(random, n, kind);
+                Record { address: no_address(random, n), ..record }
+            }),
+            Way::Ack(ack) => wrong_record(random, 6, |random, n| {
+                let record = right_record(random, n, 3);
+                let hold = random.pick(&[record.hold, record.hold, 2]);
+                Record { ack, hold, ..record }
+            }),
+            Way::Hold(hold) => wrong_record(random, 6, |random, n| {
+                let record = right_record(random, n, 3);
+                Record { hold, ..record }
+            }),
+            Way::Closed(closed) => closed::run(random, closed),
+            Way::Damaged(damage) => damage::file_with(random, damage),
+        }
+    }
+}
+
+/// n from 2 to 63, small ones often.
+fn nodes(random: &mut Random) -> u8 {
+    match random.below(10) {
+        0..=1 => 2,
+        2..=3 => 3,
+        4..=6 => random.byte(4, 8),
+        7 => random.pick(&[62, 63, 63]),
+        _ => random.byte(9, 63),
+    }
+}
+
+/// A run of open actions from a fresh bus.
+fn run(random: &mut Random, n: u8, actions: usize) -> Vec<Record> {
+    let style = Style::random(random, n);
+    let bus = Bus::fresh(n).expect("n from 2 to 63");
+    let mut driver = Driver::new(bus, Random::new(random.draw()), style);
+    (0..actions).map(|_| driver.play().0.into()).collect()
+}
+
+fn file(n: u8, records: &[Record]) -> Vec<u8> {
+    let mut file = vec![0; records.len().div_ceil(FULL) * BLOCK];
+    for (place, part) in records.chunks(FULL).enumerate() {
+        runfile::write_unchecked(block(&mut file, place), place as u32, n, part);
+    }
+    file
+}
+
+fn block(file: &mut [u8], place: usize) -> &mut [u8; BLOCK] {
+    let part = &mut file[place * BLOCK..(place + 1) * BLOCK];
+    part.try_into().expect("a part of 512 bytes")
+}
+
+fn open_run(random: &mut Random, n: u8, actions: usize) -> Case {
+    let records = run(random, n, actions);
+    let bytes = file(n, &records);
+    Case { n, records, bytes, end: End::Done { accepted: actions } }
+}
+
+/// A run of open actions with one wrong record somewhere.
+fn wrong_record(random: &mut Random, number: u8, make: impl Fn(&mut Random, u8) -> Record) -> Case {
+    let n = nodes(random);
+    let actions = random.between(0, 150) as usize;
+    let mut records = run(random, n, actions);
+    let accepted = random.between(0, actions as u64) as usize;
+    records.insert(accepted, make(random, n));
+    let bytes = file(n, &records);
+    Case { n, records, bytes, end: End::Refused { accepted, number } }
+}
+
+/// A record whose fields are right for its kind; open or not.
+fn right_record(random: &mut Random, n: u8, kind: u8) -> Record {
+    let node = random.below(n.into()) as u8;
+    let other = random.below(n.into()) as u8;
+    let address = random.pick(&[other, other, ALL_NODES]);
+    let packet = Packet { address, header: random.word(), data: random.word() };
+    Record::from(match kind {
+        1 => Action::Request { node, packet },
+        2 => Action::Arbitrate { node },
+        3 => Action::Respond { node, ack: random.byte(0, 15), hold: random.percent(50) },
+        4 => Action::Clock { node },
+        5 => Action::Pass,
+        6 => Action::Lose,
+        7 => Action::Change { address: random.pick(&[0, address]) },
+        8 => Action::Grant,
+        9 => Action::Gap,
+        _ => Action::Reset,
+    })
+}
+
+fn any_record(random: &mut Random, n: u8) -> Record {
+    let kind = random.byte(1, 10);
+    let mut record = right_record(random, n, kind);
+    for field in FIELDS {
+        if random.percent(30) {
+            set_not_zero(random, &mut record, field);
+        }
+    }
+    record
+}
+
+fn set_not_zero(random: &mut Random, record: &mut Record, field: Field) {
+    let any = random.byte(1, 255);
+    let byte = random.pick(&[1, 255, any]);
+    // Each byte of a word by itself, too.
+    let word = u32::from(byte) << (8 * random.below(4));
+    match field {
+        Field::Node => record.node = byte,
+        Field::Address => record.address = byte,
+        Field::Ack => record.ack = byte,
+        Field::Hold => record.hold = byte,
+        Field::Zero(place) => record.zeros[place] = byte,
+        Field::Header => record.header = word,
+        Field::Data => record.data = word,
+    }
+}
+
+/// Makes the named fields wrong that numbers 4 to 6 look at.
+fn spoil_named(random: &mut Random, n: u8, record: &mut Record) {
+    if names(record.kind, Field::Node) {
+        record.node = too_high(random, n);
+    }
+    if names(record.kind, Field::Address) {
+        record.address = no_address(random, n);
+    }
+    if names(record.kind, Field::Ack) {
+        record.ack = random.byte(16, 255);
+        record.hold = random.byte(2, 255);
+    }
+}
+
+fn too_high(random: &mut Random, n: u8) -> u8 {
+    let any = random.byte(n, 255);
+    random.pick(&[n, n, 63, 64, 255, any])
+}
+
+fn no_address(random: &mut Random, n: u8) -> u8 {
+    let any = random.byte(n, 255);
+    loop {
+        let address = random.pick(&[n, n, 62, 64, 255, any]);
+        if address >= n && address != ALL_NODES {
+            return address;
+        }
+    }
+}

@@ -1,0 +1,150 @@
+//! `model`: the model written apart, and the trials that hold the program `play` against it.
+
+use std::io::{self, BufWriter};
+use std::path::PathBuf;
+use std::process::ExitCode;
+
+use bench_model::harness::{bench, compare, fuzz, generate, walk};
+use bench_model::player;
+
+const USAGE: &str = "\
+model play                                        a run file in, the printed text out
+model compare PLAY [--files N] [--seed S] [--only K]
+                                                  made files, played by PLAY and by the model
+model fuzz PLAY [--files N] [--seed S]            bytes without a plan
+model walk [--n N]                                one transaction, every way it can go
+model generate mixed|broadcast|transaction [--n N] [--actions N] [--seed S]
+                                                  a run file that plays to its end
+model bench PLAY [--kind KIND] [--actions N] [--rounds N] [--factor N] [--seed S]
+                                                  the speed of PLAY and of the model";
+
+fn main() -> ExitCode {
+    match command() {
+        Ok(()) => ExitCode::SUCCESS,
+        Err(why) => {
+            eprintln!("model: {why}");
+            ExitCode::FAILURE
+        }
+    }
+}
+
+fn command() -> Result<(), String> {
+    let mut words = std::env::args().skip(1);
+    let name = words.next().ok_or(USAGE)?;
+    let mut rest = Arguments { words: words.collect() };
+    match name.as_str() {
+        "play" => {
+            rest.end()?;
+            play().map_err(|error| error.to_string())
+        }
+        "compare" => {
+            let files = rest.number("--files")?.unwrap_or(5000);
+            let seed = rest.number("--seed")?.unwrap_or(1);
+            let only = rest.number("--only")?;
+            let program = rest.program()?;
+            let options = compare::Options { program: &program, files, seed, only };
+            print!("{}", compare::compare(&options)?);
+            Ok(())
+        }
+        "fuzz" => {
+            let files = rest.number("--files")?.unwrap_or(2000);
+            let seed = rest.number("--seed")?.unwrap_or(1);
+            let program = rest.program()?;
+            print!("{}", fuzz::fuzz(&program, files, seed)?);
+            Ok(())
+        }
+        "walk" => {
+            let n = rest.nodes()?;
+            rest.end()?;
+            for n in n.map_or(vec![2, 3], |n| vec![n]) {
+                print!("{}", walk::walk(n)?);
+            }
+            Ok(())
+        }
+        "generate" => {
+            let n = rest.nodes()?.unwrap_or(8);
+            let actions = rest.number("--actions")?.unwrap_or(1000);
+            let seed = rest.number("--seed")?.unwrap_or(1);
+            let kind = rest.kind()?;
+            rest.end()?;
+            let mut output = BufWriter::with_capacity(1 << 18, io::stdout().lock());
+            generate::generate(kind, n, actions, seed, &mut output)
+        }
+        "bench" => {
+            let kind = match rest.option("--kind")? {
+                Some(word) => generate::Kind::parse(&word).ok_or(USAGE)?,
+                None => generate::Kind::Mixed,
+            };
+            let actions = rest.number("--actions")?.unwrap_or(1_000_000);
+            let rounds = rest.number("--rounds")?.unwrap_or(9).max(1) as usize;
+            let factor = rest.number("--factor")?.unwrap_or(100);
+            let seed = rest.number("--seed")?.unwrap_or(1);
+            let program = rest.program()?;
+            bench::bench(&bench::Options { program: &program, kind, actions, rounds, factor, seed })
+        }
+        _ => Err(USAGE.into()),
+    }
+}
+
+fn play() -> io::Result<()> {
+    player::play_stream(&mut io::stdin().lock(), &mut io::stdout().lock())
+}
+
+/// The words after the subcommand: options are taken out, what is left is taken in order.
+struct Arguments {
+    words: Vec<String>,
+}
+
+impl Arguments {
+    fn option(&mut self, name: &str) -> Result<Option<String>, String> {
+        let Some(place) = self.words.iter().position(|word| word == name) else {
+            return Ok(None);
+        };
+        self.words.remove(place);
+        if place == self.words.len() {
+            return Err(format!("{name} needs a value\n{USAGE}"));
+        }
+        Ok(Some(self.words.remove(place)))
+    }
+
+    fn number(&mut self, name: &str) -> Result<Option<u64>, String> {
+        let Some(word) = self.option(name)? else {
+            return Ok(None);
+        };
+        word.parse().map(Some).map_err(|_| format!("{name}: {word} is no number"))
+    }
+
+    fn nodes(&mut self) -> Result<Option<u8>, String> {
+        match self.number("--n")? {
+            None => Ok(None),
+            Some(n) if (2..=63).contains(&n) => Ok(Some(n as u8)),
+            Some(n) => Err(format!("--n: n is 2 to 63, not {n}")),
+        }
+    }
+
+    fn next(&mut self) -> Result<String, String> {
+        if self.words.is_empty() {
+            return Err(USAGE.into());
+        }
+        Ok(self.words.remove(0))
+    }
+
+    fn kind(&mut self) -> Result<generate::Kind, String> {
+        generate::Kind::parse(&self.next()?).ok_or(USAGE.into())
+    }
+
+    /// The path of a program, the last word there is.
+    fn program(&mut self) -> Result<PathBuf, String> {
+        let path = PathBuf::from(self.next()?);
+        self.end()?;
+        // A bare name would be looked up elsewhere.
+        path.canonicalize().map_err(|error| format!("{}: {error}", path.display()))
+    }
+
+    fn end(&self) -> Result<(), String> {
+        match self.words.first() {
+            None => Ok(()),
+            Some(word) => Err(format!("{word} is one word too many\n{USAGE}")),
+        }
+    }
+}

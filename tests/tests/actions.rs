@@ -1,0 +1,275 @@
+//! The ten actions where the marked cases do not look, and the traps.
+
+mod common;
+
+use bench_model::bus::{Bus, Mode, Node, Packet, Phase, Record, Report, Reported, Signal};
+use common::*;
+
+fn said(node: u8, report: Report) -> Option<Reported> {
+    Some(Reported { node, report })
+}
+
+fn play(bus: &mut Bus, records: &[Record]) -> Vec<Option<Reported>> {
+    records.iter().map(|record| bus.step(record).expect("open")).collect()
+}
+
+/// Case B up to the respond, with hold 1 instead, and its three clocks and passes.
+fn held() -> Vec<Record> {
+    let mut run = case_b();
+    run[15] = respond(1, 1, 1);
+    run.truncate(22);
+    run
+}
+
+#[test]
+fn arbitrate_is_lost_unless_idle_and_not_won() {
+    let mut bus = after(2, &[request(0, 1, 0, 0), request(1, 0, 0, 0)]);
+    assert_eq!(bus.step(&arbitrate(1)), Ok(said(1, Report::Won)));
+    assert!(bus.won.only(1, 2) && bus.holder.only(1, 2));
+    assert_eq!(bus.phase, Phase::Busy);
+    assert_eq!(bus.nodes[1].buffer, None);
+    assert_eq!(bus.nodes[1].mode, Mode::Sending { step: 0 });
+    let before = bus.clone();
+    assert_eq!(bus.step(&arbitrate(0)), Ok(said(0, Report::Lost)));
+    assert_eq!(bus, before, "nothing changes");
+
+    // Won before, and idle again: lost until a reset.
+    let mut bus = after(2, &case_b());
+    play(&mut bus, &[request(0, 1, 0, 0)]);
+    assert_eq!(bus.step(&arbitrate(0)), Ok(said(0, Report::Lost)));
+    play(&mut bus, &[reset()]);
+    assert_eq!(bus.step(&arbitrate(0)), Ok(said(0, Report::Won)));
+}
+
+#[test]
+fn delivering_goes_to_every_other_node_lowest_first() {
+    let mut bus = after(4, &[request(2, 63, 0, 0), arbitrate(2), clock(2)]);
+    let mut receivers = Vec::new();
+    while let Phase::Delivering { sender: 2, signal: Signal::Start, receiver } = bus.phase {
+        receivers.push(receiver);
+        play(&mut bus, &[pass()]);
+    }
+    assert_eq!(receivers, [0, 1, 3]);
+    assert_eq!(bus.phase, Phase::Busy);
+    let modes = [Mode::Opened, Mode::Opened, Mode::Sending { step: 1 }, Mode::Opened];
+    assert_eq!([0, 1, 2, 3].map(|node| bus.nodes[node].mode), modes);
+}
+
+#[test]
+fn a_packet_to_itself_is_missed() {
+    let mut run = vec![request(0, 0, 5, 6), arbitrate(0)];
+    run.extend(packet_of_two());
+    let mut bus = after(2, &run);
+    assert_eq!(bus.phase, Phase::Gapping { node: 0 });
+    assert_eq!(play(&mut bus, &[gap(), gap()]), [said(0, Report::Miss), None]);
+    assert_eq!(bus.phase, Phase::Idle);
+}
+
+#[test]
+fn end_ends_the_holding_and_prefix_does_not() {
+    let bus = after(2, &case_b()[..13]);
+    assert!(!bus.holder.any(2), "node 0 put out End");
+    assert_eq!(bus.nodes[0].mode, Mode::AwaitAck);
+    let bus = after(2, &case_b()[..21]);
+    assert!(!bus.holder.any(2), "node 1 put out End");
+    assert_eq!(bus.nodes[1].mode, Mode::Rest);
+    let bus = after(2, &held());
+    assert!(bus.holder.only(1, 2));
+    assert_eq!(bus.nodes[1].mode, Mode::Holding);
+    assert_eq!(bus.nodes[0].mode, Mode::Wait);
+    assert_eq!(bus.phase, Phase::Busy);
+}
+
+#[test]
+fn held_acknowledgement_is_reported_at_its_prefix() {
+    let text = printed(2, &held());
+    assert!(text.ends_with("\n20 4 -\n21 5 0 ack 1\ndone 22\n"), "{text}");
+}
+
+/// Trap: "Emptying the buffer of a holder when its reply is sent."
+#[test]
+fn a_request_from_holding_leaves_the_buffer() {
+    let mut run = vec![request(1, 63, 8, 9)];
+    run.extend(held());
+    let mut bus = after(2, &run);
+    let waiting = Some(Packet { address: 63, header: 8, data: 9 });
+    assert_eq!(bus.nodes[1].buffer, waiting);
+    assert_eq!(bus.step(&request(1, 0, 3, 4)), Ok(None));
+    let sending = Packet { address: 0, header: 3, data: 4 };
+    assert_eq!(bus.nodes[1], Node { mode: Mode::Sending { step: 0 }, buffer: waiting, sending });
+    play(&mut bus, &[clock(1), pass()].repeat(6));
+    assert_eq!(bus.nodes[1], Node { mode: Mode::AwaitAck, buffer: waiting, sending });
+    // Node 0 waits for the gap: it has not received that packet.
+    assert_eq!(play(&mut bus, &[gap(), gap()]), [None, said(1, Report::Miss)]);
+    assert_eq!(bus.nodes[1], Node { mode: Mode::Rest, buffer: waiting, sending });
+}
+
+#[test]
+fn a_broadcast_from_holding_is_sent() {
+    let mut run = held();
+    run.push(request(1, 63, 3, 4));
+    let mut bus = after(2, &run);
+    let reports = play(&mut bus, &[clock(1), pass()].repeat(6));
+    assert_eq!(reports[10], said(1, Report::Sent));
+    assert_eq!(reports[11], None, "received by nobody");
+    assert_eq!(bus.phase, Phase::Gapping { node: 0 });
+}
+
+#[test]
+fn fillers_in_answering_and_holding() {
+    let mut bus = after(2, &case_b()[..15]);
+    assert_eq!(bus.nodes[1].mode, Mode::Answering);
+    play(&mut bus, &[clock(1)]);
+    assert_eq!(bus.phase, Phase::Delivering { sender: 1, signal: Signal::Prefix, receiver: 0 });
+    assert_eq!(bus.nodes[1].mode, Mode::Answering);
+    // Respond has no condition on the bus.
+    play(&mut bus, &[respond(1, 2, 0), pass()]);
+    assert_eq!(bus.nodes[0].mode, Mode::AwaitAck, "Prefix stay");
+    assert_eq!(bus.nodes[1].mode, Mode::Acking { step: 0, ack: 2, hold: false });
+
+    let mut bus = after(2, &held());
+    play(&mut bus, &[clock(1), pass(), clock(1)]);
+    assert_eq!(bus.nodes[1].mode, Mode::Holding);
+    // A request from Holding while a Prefix is under way.
+    play(&mut bus, &[request(1, 63, 3, 4), pass()]);
+    assert_eq!(bus.nodes[1].mode, Mode::Sending { step: 0 });
+    assert_eq!(bus.phase, Phase::Busy);
+}
+
+/// Trap: "Handing a Spurious End to the others".
+#[test]
+fn the_end_of_a_spurious_node_reaches_nobody() {
+    // Case F: 0 to 1, node 2's Dest changed to 2.
+    let mut run = vec![request(0, 1, 5, 6), arbitrate(0)];
+    run.extend([clock(0), pass(), pass()].repeat(6));
+    run[10] = change(2);
+    let mut bus = after(3, &run);
+    assert_eq!(bus.phase, Phase::Granting);
+    play(&mut bus, &[grant()]);
+    assert_eq!(bus.phase, Phase::Granting, "node 2 is still pending");
+    assert_eq!(bus.nodes[1].mode, Mode::Answering);
+    play(&mut bus, &[grant()]);
+    assert_eq!(bus.phase, Phase::Busy);
+    assert_eq!(bus.nodes[2].mode, Mode::Spurious);
+    assert_eq!(play(&mut bus, &[clock(2)]), [None]);
+    assert_eq!(bus.phase, Phase::Busy, "node 1 still holds");
+    assert_eq!(bus.nodes[0].mode, Mode::AwaitAck);
+    assert_eq!(bus.nodes[2].mode, Mode::Rest);
+    play(&mut bus, &[respond(1, 4, 0), clock(1), pass(), pass(), clock(1), pass(), pass()]);
+    let reports = play(&mut bus, &[clock(1), pass(), pass()]);
+    assert_eq!(reports, [None, said(0, Report::Ack(4)), None]);
+    assert_eq!(bus.phase, Phase::Gapping { node: 0 });
+}
+
+/// Trap: "A misled mark left over from the packet before."
+#[test]
+fn start_clears_the_misled_marks() {
+    // A broadcast whose Dest reaches node 1 as 0: node 1 waits, and is marked.
+    let mut run = vec![request(0, 63, 1, 2), arbitrate(0)];
+    run.extend(packet_of_two());
+    run[7] = change(0);
+    run.extend([gap(), gap(), reset(), request(0, 63, 3, 4), arbitrate(0)]);
+    let mut bus = after(2, &run);
+    assert!(bus.misled.has(1));
+    play(&mut bus, &[clock(0)]);
+    assert!(!bus.misled.any(2));
+    let reports = play(&mut bus, &[&[pass()][..], &[clock(0), pass()].repeat(5)].concat());
+    assert_eq!(reports[10], said(1, Report::Broad { header: 3, data: 4 }));
+}
+
+/// The Start of an acknowledgement is a Start too.
+#[test]
+fn the_start_of_an_acknowledgement_clears_the_marks() {
+    let mut run = vec![request(0, 1, 5, 6), arbitrate(0)];
+    run.extend([clock(0), pass(), pass()].repeat(6));
+    run[10] = change(2);
+    run.extend([grant(), grant(), clock(2), respond(1, 4, 0)]);
+    let mut bus = after(3, &run);
+    assert!(bus.misled.only(2, 3));
+    play(&mut bus, &[clock(1)]);
+    assert!(!bus.misled.any(3));
+}
+
+/// Trap: "a dropped packet may still owe a grant: Wait and Owed differ."
+#[test]
+fn a_dropped_packet_owes_a_grant() {
+    let mut run = case_b();
+    run[9] = change(0);
+    let bus = after(2, &run[..14]);
+    assert_eq!(bus.nodes[1].mode, Mode::Owed);
+    assert_eq!(bus.phase, Phase::Granting);
+    // Changed to 63 by the way: HeadAll, a bad Header, Wait, and no grant.
+    let mut run = case_b();
+    run[7] = change(63);
+    let bus = after(2, &run[..14]);
+    assert_eq!(bus.nodes[1].mode, Mode::Wait);
+    assert_eq!(bus.phase, Phase::Gapping { node: 0 });
+}
+
+#[test]
+fn grant_of_a_state_handed_in() {
+    // "another mode kept"
+    let mut bus = Bus { phase: Phase::Granting, ..Bus::fresh(3).unwrap() };
+    bus.pending.set(1);
+    bus.pending.set(2);
+    bus.nodes[1].mode = Mode::Wait;
+    play(&mut bus, &[grant()]);
+    assert_eq!(bus.nodes[1].mode, Mode::Wait);
+    assert!(bus.holder.only(1, 3) && bus.pending.only(2, 3));
+    assert_eq!(bus.phase, Phase::Granting);
+    // "if any": a Granting bus with nobody pending
+    let mut bus = Bus { phase: Phase::Granting, ..Bus::fresh(3).unwrap() };
+    let before = bus.clone();
+    play(&mut bus, &[grant()]);
+    assert_eq!(bus, Bus { phase: Phase::Busy, ..before });
+}
+
+#[test]
+fn a_holder_in_another_mode_has_no_clock() {
+    let mut bus = Bus { phase: Phase::Busy, ..Bus::fresh(2).unwrap() };
+    bus.holder.set(0);
+    for mode in [Mode::Rest, Mode::AwaitAck, Mode::Wait, Mode::Owed, Mode::Told] {
+        bus.nodes[0].mode = mode;
+        assert_eq!(bus.step(&clock(0)).unwrap_err().number(), 7);
+    }
+    bus.nodes[0].mode = Mode::Spurious;
+    assert_eq!(bus.step(&clock(0)), Ok(None));
+    assert_eq!(bus.phase, Phase::Gapping { node: 0 });
+}
+
+/// A Spurious node that was the last holder leaves a Gapping bus, even with a node pending.
+#[test]
+fn spurious_does_not_look_at_pending() {
+    let mut bus = Bus { phase: Phase::Busy, ..Bus::fresh(2).unwrap() };
+    bus.holder.set(0);
+    bus.pending.set(1);
+    bus.nodes[0].mode = Mode::Spurious;
+    play(&mut bus, &[clock(0)]);
+    assert_eq!(bus.phase, Phase::Gapping { node: 0 });
+}
+
+#[test]
+fn gap_starts_where_the_state_says() {
+    let mut bus = Bus { phase: Phase::Gapping { node: 1 }, ..Bus::fresh(3).unwrap() };
+    bus.nodes[0].mode = Mode::AwaitAck;
+    bus.nodes[1].mode = Mode::AckEnd { good: Some(1) };
+    bus.nodes[2].mode = Mode::Wait;
+    assert_eq!(play(&mut bus, &[gap(), gap()]), [said(1, Report::Miss), None]);
+    assert_eq!(bus.phase, Phase::Idle);
+    assert_eq!(bus.nodes[0].mode, Mode::AwaitAck);
+}
+
+/// Which actions are forward.
+#[test]
+fn forward_actions() {
+    let forward = |bus: &Bus, record: Record| bus.is_forward(record.look(bus.n).unwrap());
+    let run = held();
+    let flags: Vec<bool> = (0..run.len()).map(|i| forward(&after(2, &run[..i]), run[i])).collect();
+    // All but the request into the buffer and the arbitration.
+    assert_eq!(flags[..2], [false, false]);
+    assert_eq!(flags[2..], [true; 20]);
+    assert!(!forward(&after(2, &run[..15]), clock(1)), "a filler in Answering");
+    assert!(!forward(&after(2, &run), clock(1)), "a filler in Holding");
+    assert!(forward(&after(2, &run), request(1, 0, 0, 0)), "from Holding");
+    assert!(!forward(&after(2, &case_b()), reset()));
+}

@@ -1,0 +1,82 @@
+//! Short names for what the tests write often.
+#![allow(dead_code)]
+
+use bench_model::bus::{Action, Bus, Packet, Record};
+use bench_model::{player, runfile};
+
+pub fn request(node: u8, address: u8, header: u32, data: u32) -> Record {
+    Action::Request { node, packet: Packet { address, header, data } }.into()
+}
+
+pub fn arbitrate(node: u8) -> Record {
+    Action::Arbitrate { node }.into()
+}
+
+pub fn respond(node: u8, ack: u8, hold: u8) -> Record {
+    Record { kind: 3, node, ack, hold, ..Record::default() }
+}
+
+pub fn clock(node: u8) -> Record {
+    Action::Clock { node }.into()
+}
+
+pub fn change(address: u8) -> Record {
+    Action::Change { address }.into()
+}
+
+fn of(kind: u8) -> Record {
+    Record { kind, ..Record::default() }
+}
+
+pub fn pass() -> Record {
+    of(5)
+}
+
+pub fn lose() -> Record {
+    of(6)
+}
+
+pub fn grant() -> Record {
+    of(8)
+}
+
+pub fn gap() -> Record {
+    of(9)
+}
+
+pub fn reset() -> Record {
+    of(10)
+}
+
+/// "six times clock 0 and pass", n = 2.
+pub fn packet_of_two() -> Vec<Record> {
+    [clock(0), pass()].repeat(6)
+}
+
+/// The run of marked case B.
+pub fn case_b() -> Vec<Record> {
+    let mut run = vec![request(0, 1, 5, 6), arbitrate(0)];
+    run.extend(packet_of_two());
+    run.extend([grant(), respond(1, 1, 0)]);
+    run.extend([clock(1), pass()].repeat(3));
+    run.extend([gap(), gap()]);
+    run
+}
+
+pub fn printed_file(bytes: &[u8]) -> String {
+    String::from_utf8(player::play_file(bytes)).expect("the text is ASCII")
+}
+
+/// The text of a run that the writer takes.
+pub fn printed(n: u8, records: &[Record]) -> String {
+    printed_file(&runfile::write_file(n, records).expect("the writer takes it"))
+}
+
+/// A fresh bus on which these actions were accepted.
+pub fn after(n: u8, records: &[Record]) -> Bus {
+    let mut bus = Bus::fresh(n).expect("n from 2 to 63");
+    for record in records {
+        bus.step(record).expect("each action is open");
+    }
+    bus
+}

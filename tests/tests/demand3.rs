@@ -1,0 +1,171 @@
+//! The watch on demand 3 sees what it should, and passes what it should; the walk; the generators.
+
+mod common;
+
+use bench_model::bus::{Bus, Mode, Phase, Record};
+use bench_model::harness::generate::{self, Kind};
+use bench_model::harness::random::Random;
+use bench_model::harness::walk;
+use bench_model::harness::watch::Watch;
+use bench_model::harness::ways::{End, Way};
+use bench_model::player;
+use common::*;
+
+fn watched(n: u8, records: &[Record]) -> Result<Watch, String> {
+    let mut watch = Watch::new(Bus::fresh(n).unwrap());
+    watch.look()?;
+    for record in records {
+        let _ = watch.step(record)?;
+    }
+    Ok(watch)
+}
+
+#[test]
+fn marked_cases_pass() {
+    let mut run = case_b();
+    watched(2, &run).unwrap();
+    run[9] = lose();
+    // Most of what follows is refused now, and is played all the same.
+    watched(2, &run).unwrap();
+    watched(2, &[]).unwrap();
+    watched(63, &[Record::default(); 3]).unwrap();
+}
+
+#[test]
+fn a_node_that_does_not_rest_is_seen() {
+    let mut watch = watched(2, &case_b()).unwrap();
+    watch.bus.nodes[1].mode = Mode::Wait;
+    assert!(watch.look().unwrap_err().contains("does not rest"));
+}
+
+#[test]
+fn a_lost_buffer_is_seen() {
+    let mut watch = watched(2, &[request(0, 1, 5, 6)]).unwrap();
+    watch.bus.nodes[0].buffer.as_mut().unwrap().data = 7;
+    assert!(watch.look().unwrap_err().contains("buffer"));
+    watch.bus.nodes[0].buffer = None;
+    assert!(watch.look().unwrap_err().contains("buffer"));
+}
+
+#[test]
+fn a_dead_end_is_seen() {
+    let mut watch = watched(2, &case_b()[..2]).unwrap();
+    watch.bus.holder.clear(0);
+    assert!(watch.look().unwrap_err().contains("no forward action"));
+}
+
+#[test]
+fn a_missing_confirmation_is_seen() {
+    let mut watch = watched(2, &case_b()[..22]).unwrap();
+    watch.bus.phase = Phase::Idle;
+    watch.bus.nodes[0].mode = Mode::Rest;
+    watch.look().unwrap();
+    let mut watch = watched(2, &case_b()[..20]).unwrap();
+    watch.bus = Bus::fresh(2).unwrap();
+    assert!(watch.look().unwrap_err().contains("confirmation"));
+}
+
+#[test]
+fn a_second_confirmation_is_seen() {
+    let mut watch = watched(2, &case_b()[..22]).unwrap();
+    watch.bus.nodes[0].mode = Mode::AwaitAck;
+    watch.step(&gap()).unwrap().unwrap();
+    assert!(watch.step(&gap()).unwrap_err().contains("confirmation"));
+}
+
+/// Case B up to where node 0 waits for the End of its acknowledgement.
+fn before_ack() -> Watch {
+    watched(2, &case_b()[..21]).unwrap()
+}
+
+#[test]
+fn a_false_acknowledgement_is_seen() {
+    // Another number than the user gave.
+    let mut watch = before_ack();
+    watch.bus.nodes[0].mode = Mode::AckEnd { good: Some(2) };
+    assert!(watch.step(&pass()).unwrap_err().contains("the respond is"));
+    // Never told.
+    let mut watch = watched(2, &case_b()[..13]).unwrap();
+    watch.bus.nodes[0].mode = Mode::AckEnd { good: Some(1) };
+    watch.bus.phase =
+        Phase::Delivering { sender: 1, signal: bench_model::bus::Signal::End, receiver: 0 };
+    assert!(watch.step(&pass()).unwrap_err().contains("0 times told"));
+    // Told of another packet.
+    let mut watch = watched(2, &case_b()[..13]).unwrap();
+    watch.bus.nodes[1].mode = Mode::TailOwn { header: 5, data: Some(7) };
+    for record in &case_b()[13..21] {
+        watch.step(record).unwrap().unwrap();
+    }
+    assert!(watch.step(&pass()).unwrap_err().contains("not of the packet"));
+    // Told, and nobody responded.
+    let mut watch = watched(2, &case_b()[..15]).unwrap();
+    watch.bus.nodes[1].mode = Mode::Acking { step: 0, ack: 1, hold: false };
+    for record in &case_b()[16..21] {
+        watch.step(record).unwrap().unwrap();
+    }
+    assert!(watch.step(&pass()).unwrap_err().contains("0 responds"));
+    // As it should be.
+    before_ack().step(&pass()).unwrap().unwrap();
+}
+
+/// A request from Holding starts at once; one in the buffer meanwhile starts with `won`.
+#[test]
+fn starts_at_once_or_with_won() {
+    let mut run = vec![request(1, 0, 8, 9)];
+    run.extend(case_b());
+    run[16] = respond(1, 1, 1);
+    run.truncate(23);
+    run.push(request(1, 0, 3, 4));
+    run.extend([clock(1), pass()].repeat(6));
+    run.extend([gap(), gap(), arbitrate(1)]);
+    run.extend([clock(1), pass()].repeat(6));
+    run.extend([grant(), respond(0, 7, 0)]);
+    run.extend([clock(0), pass()].repeat(3));
+    run.extend([gap(), gap()]);
+    let watch = watched(2, &run).unwrap();
+    assert_eq!(watch.bus.phase, Phase::Idle);
+    let text = printed(2, &run);
+    assert!(text.contains(" 9 1 miss\n") && text.contains(" 2 1 won\n"), "{text}");
+    assert!(text.contains(" 5 1 ack 7\n"), "{text}");
+}
+
+#[test]
+fn the_longest_way_is_18n_less_1() {
+    let text = walk::walk(2).unwrap();
+    assert!(text.ends_with("longest way of forward actions to Idle 35\n"), "{text}");
+    let text = walk::walk(3).unwrap();
+    assert!(text.ends_with("longest way of forward actions to Idle 53\n"), "{text}");
+    assert!(text.contains("61 of 322 cells"), "{text}");
+}
+
+#[test]
+fn generated_files_play_to_their_end() {
+    for kind in [Kind::Mixed, Kind::Broadcast, Kind::Transaction] {
+        for n in [2, 3, 63] {
+            for actions in [1, 31, 62, 63, 5000] {
+                let mut file = Vec::new();
+                generate::generate(kind, n, actions, 5, &mut file).unwrap();
+                let text = String::from_utf8(player::play_file(&file)).unwrap();
+                assert!(text.starts_with(&format!("nodes {n}\n")));
+                assert!(text.ends_with(&format!("\ndone {actions}\n")), "{kind:?} {n} {actions}");
+            }
+        }
+    }
+}
+
+/// Each way of making a file ends as it must, once.
+#[test]
+fn every_way_ends_as_it_must() {
+    for (index, way) in (0..).zip(Way::all()) {
+        let case = way.make(&mut Random::of(3, index));
+        let text = String::from_utf8(player::play_file(&case.bytes)).unwrap();
+        let last = text.lines().next_back().unwrap();
+        match case.end {
+            End::Done { accepted } => assert_eq!(last, format!("done {accepted}"), "{way}"),
+            End::Refused { accepted, number } => {
+                assert_eq!(last, format!("refused {accepted} {number}"), "{way}")
+            }
+            End::Either => (),
+        }
+    }
+}

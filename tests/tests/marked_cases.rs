@@ -1,0 +1,255 @@
+//! Marked cases A to I; the texts are document 01's, or written by hand from its sentences.
+
+mod common;
+
+use bench_model::bus::{Bus, Refusal};
+use bench_model::runfile::{self, BLOCK};
+use common::*;
+
+#[test]
+fn a_broadcast() {
+    let mut run = vec![request(0, 63, 1, 2), arbitrate(0)];
+    run.extend(packet_of_two());
+    run.extend([gap(), gap()]);
+    let text = "\
+nodes 2
+0 1 -
+1 2 0 won
+2 4 -
+3 5 -
+4 4 -
+5 5 -
+6 4 -
+7 5 -
+8 4 -
+9 5 -
+10 4 -
+11 5 -
+12 4 0 sent
+13 5 1 broad 1 2
+14 9 -
+15 9 -
+done 16
+";
+    assert_eq!(printed(2, &run), text);
+}
+
+#[test]
+fn b_acknowledged() {
+    let text = "\
+nodes 2
+0 1 -
+1 2 0 won
+2 4 -
+3 5 -
+4 4 -
+5 5 -
+6 4 -
+7 5 -
+8 4 -
+9 5 -
+10 4 -
+11 5 -
+12 4 -
+13 5 1 good 5 6
+14 8 -
+15 3 -
+16 4 -
+17 5 -
+18 4 -
+19 5 -
+20 4 -
+21 5 0 ack 1
+22 9 -
+23 9 -
+done 24
+";
+    assert_eq!(printed(2, &case_b()), text);
+}
+
+#[test]
+fn c_bad_data() {
+    let mut run = case_b();
+    run[11] = change(0);
+    let text = "\
+nodes 2
+0 1 -
+1 2 0 won
+2 4 -
+3 5 -
+4 4 -
+5 5 -
+6 4 -
+7 5 -
+8 4 -
+9 5 -
+10 4 -
+11 7 -
+12 4 -
+13 5 1 dcrc 5
+14 8 -
+15 3 -
+16 4 -
+17 5 -
+18 4 -
+19 5 -
+20 4 -
+21 5 0 ack 1
+22 9 -
+23 9 -
+done 24
+";
+    assert_eq!(printed(2, &run), text);
+}
+
+#[test]
+fn d_lost_header() {
+    let mut run = case_b();
+    run[9] = lose();
+    run.truncate(14);
+    run.extend([grant(), clock(1), gap()]);
+    let text = "\
+nodes 2
+0 1 -
+1 2 0 won
+2 4 -
+3 5 -
+4 4 -
+5 5 -
+6 4 -
+7 5 -
+8 4 -
+9 6 -
+10 4 -
+11 5 -
+12 4 -
+13 5 -
+14 8 -
+15 4 -
+16 9 0 miss
+done 17
+";
+    assert_eq!(printed(2, &run), text);
+}
+
+#[test]
+fn e_lost_acknowledgement() {
+    let mut run = case_b();
+    run[19] = lose();
+    let text = "\
+nodes 2
+0 1 -
+1 2 0 won
+2 4 -
+3 5 -
+4 4 -
+5 5 -
+6 4 -
+7 5 -
+8 4 -
+9 5 -
+10 4 -
+11 5 -
+12 4 -
+13 5 1 good 5 6
+14 8 -
+15 3 -
+16 4 -
+17 5 -
+18 4 -
+19 6 -
+20 4 -
+21 5 0 miss
+22 9 -
+23 9 -
+done 24
+";
+    assert_eq!(printed(2, &run), text);
+}
+
+#[test]
+fn f_changed_address() {
+    let mut run = vec![request(0, 1, 5, 6), arbitrate(0)];
+    run.extend([clock(0), pass(), pass()].repeat(6));
+    run[10] = change(2);
+    run.extend([grant(), grant()]);
+    let played = "\
+nodes 3
+0 1 -
+1 2 0 won
+2 4 -
+3 5 -
+4 5 -
+5 4 -
+6 5 -
+7 5 -
+8 4 -
+9 5 -
+10 7 -
+11 4 -
+12 5 -
+13 5 -
+14 4 -
+15 5 -
+16 5 -
+17 4 -
+18 5 1 good 5 6
+19 5 -
+20 8 -
+21 8 -
+";
+    // "after both grants clock 1 is refused 7 until clock 2"
+    let early = [&run[..], &[clock(1)]].concat();
+    assert_eq!(printed(3, &early), format!("{played}refused 22 7\n"));
+    let late = [&run[..], &[clock(2), clock(1)]].concat();
+    assert_eq!(printed(3, &late), format!("{played}22 4 -\n23 4 -\ndone 24\n"));
+}
+
+#[test]
+fn g_zero_bytes() {
+    assert_eq!(printed_file(&[0; BLOCK]), "refused 0 1\n");
+}
+
+/// Case H's block, byte by byte.
+fn block_h() -> [u8; BLOCK] {
+    let mut block = [0; BLOCK];
+    block[4] = 1;
+    block[5] = 2;
+    block[14] = 2;
+    block[510] = 47;
+    block
+}
+
+#[test]
+fn h_arbitrate_without_request() {
+    assert_eq!(runfile::check(&block_h()), 47);
+    assert_eq!(runfile::write_file(2, &[arbitrate(0)]).unwrap(), block_h());
+    assert_eq!(printed_file(&block_h()), "nodes 2\nrefused 0 7\n");
+}
+
+#[test]
+fn i_ends_of_the_ranges() {
+    for (n, refusal) in
+        [(1, Some(Refusal::NodeCount)), (2, None), (63, None), (64, Some(Refusal::NodeCount))]
+    {
+        assert_eq!(Bus::fresh(n).err(), refusal);
+        assert_eq!(runfile::write_file(n, &[request(0, 1, 0, 0)]).err(), refusal);
+        let mut block = block_h();
+        block[5] = n;
+        runfile::seal(&mut block);
+        let text = match refusal {
+            None => format!("nodes {n}\nrefused 0 7\n"),
+            Some(_) => "refused 0 1\n".into(),
+        };
+        assert_eq!(printed_file(&block), text);
+    }
+    // In case B: the respond is at 15.
+    let mut bus = after(2, &case_b()[..15]);
+    assert_eq!(bus.clone().step(&respond(1, 16, 0)), Err(Refusal::AckOrHold));
+    assert_eq!(bus.step(&respond(1, 15, 0)), Ok(None));
+    let mut run = case_b();
+    run[15] = respond(1, 15, 0);
+    assert!(printed(2, &run).ends_with("\n21 5 0 ack 15\n22 9 -\n23 9 -\ndone 24\n"));
+    run[15] = respond(1, 16, 0);
+    assert_eq!(runfile::write_file(2, &run), Err(Refusal::AckOrHold));
+}

@@ -1,0 +1,289 @@
+//! The twelve numbers at single steps: their order when several conditions hold, what a refusal
+//! leaves, and 12.
+
+mod common;
+
+use bench_model::bus::{Action, Bus, Check, Marks, Mode, Packet, Phase, Record, Refusal, Signal};
+use common::*;
+
+/// What a step on this state says, and that a refusal leaves the state as it was.
+fn refused(bus: &Bus, record: Record) -> u8 {
+    let mut after = bus.clone();
+    let refusal = after.step(&record).expect_err("a refusal");
+    assert_eq!(&after, bus, "a refused step returns the state handed in");
+    refusal.number()
+}
+
+fn fresh(n: u8) -> Bus {
+    Bus::fresh(n).unwrap()
+}
+
+#[test]
+fn examples_of_the_table() {
+    assert_eq!(Bus::fresh(64), Err(Refusal::NodeCount));
+    assert_eq!(refused(&fresh(2), Record::default()), 2);
+    assert_eq!(refused(&fresh(2), Record { node: 1, ..reset() }), 3);
+    assert_eq!(refused(&fresh(2), clock(2)), 4);
+    assert_eq!(refused(&fresh(2), request(0, 2, 0, 0)), 5);
+    assert_eq!(refused(&fresh(2), respond(0, 16, 0)), 6);
+    // lose on End: case B up to the clock that puts out End
+    assert_eq!(refused(&after(2, &case_b()[..13]), lose()), 7);
+    assert_eq!(refused(&Bus { n: 0, ..fresh(2) }, pass()), 12);
+    assert_eq!(Refusal::BlockLength.number(), 8);
+    assert_eq!(Refusal::BlockCheck.number(), 9);
+    assert_eq!(Refusal::BlockOrder.number(), 10);
+    assert_eq!(Refusal::BlockContent.number(), 11);
+}
+
+#[test]
+fn a_refused_fresh_bus_is_like_a_fresh_one_of_none() {
+    assert_eq!(Bus::REFUSED, Bus { n: 0, ..fresh(2) });
+}
+
+/// Every condition at once, then one less each time: the lowest that is left counts.
+#[test]
+fn in_order_from_12_to_7() {
+    let no_state = Bus { phase: Phase::Gapping { node: 2 }, ..fresh(2) };
+    let all = Record {
+        kind: 11,
+        node: 2,
+        address: 2,
+        ack: 16,
+        hold: 2,
+        zeros: [0, 0, 1],
+        header: 1,
+        data: 1,
+    };
+    assert_eq!(refused(&no_state, all), 12);
+    assert_eq!(refused(&fresh(2), all), 2);
+    assert_eq!(refused(&fresh(2), Record { kind: 3, ..all }), 3);
+    assert_eq!(refused(&fresh(2), Record { kind: 1, ..all }), 3);
+    let request = Record { ack: 0, hold: 0, zeros: [0; 3], kind: 1, ..all };
+    assert_eq!(refused(&fresh(2), request), 4);
+    assert_eq!(refused(&fresh(2), Record { node: 1, ..request }), 5);
+    let respond = Record { kind: 3, node: 2, ack: 16, hold: 2, ..Record::default() };
+    assert_eq!(refused(&fresh(2), respond), 4);
+    assert_eq!(refused(&fresh(2), Record { node: 1, ..respond }), 6);
+    assert_eq!(refused(&fresh(2), Record { node: 1, ack: 15, ..respond }), 6);
+    assert_eq!(refused(&fresh(2), Record { node: 1, ack: 16, hold: 1, ..respond }), 6);
+    assert_eq!(refused(&fresh(2), Record { node: 1, ack: 15, hold: 1, ..respond }), 7);
+}
+
+#[test]
+fn kinds_are_1_to_10() {
+    for kind in 0..=255 {
+        let said = fresh(2).step(&Record { kind, ..Record::default() });
+        assert_eq!(said == Err(Refusal::Kind), !(1..=10).contains(&kind), "kind {kind}");
+    }
+}
+
+/// "Fields that a kind doesn't name are 0": which ones a kind names, by hand.
+#[test]
+fn fields_that_a_kind_does_not_name() {
+    // node, address, acknowledgement, hold, header, data
+    let named: [[u8; 6]; 10] = [
+        [1, 1, 0, 0, 1, 1], // request
+        [1, 0, 0, 0, 0, 0], // arbitrate
+        [1, 0, 1, 1, 0, 0], // respond
+        [1, 0, 0, 0, 0, 0], // clock
+        [0, 0, 0, 0, 0, 0], // pass
+        [0, 0, 0, 0, 0, 0], // lose
+        [0, 1, 0, 0, 0, 0], // change
+        [0, 0, 0, 0, 0, 0], // grant
+        [0, 0, 0, 0, 0, 0], // gap
+        [0, 0, 0, 0, 0, 0], // reset
+    ];
+    for (kind, names) in (1..).zip(named) {
+        let bare = Record { kind, ..Record::default() };
+        let with_one = [
+            Record { node: 1, ..bare },
+            Record { address: 1, ..bare },
+            Record { ack: 1, ..bare },
+            Record { hold: 1, ..bare },
+            Record { header: 1 << 24, ..bare },
+            Record { data: 1 << 24, ..bare },
+        ];
+        for (record, named) in with_one.into_iter().zip(names) {
+            let said = record.look(2);
+            assert_eq!(said.is_ok(), named == 1, "kind {kind}: {record:?}");
+            assert!(named == 1 || said == Err(Refusal::FieldNotNamed));
+        }
+        for place in 0..3 {
+            let mut record = bare;
+            record.zeros[place] = 1;
+            assert_eq!(record.look(2), Err(Refusal::FieldNotNamed));
+        }
+    }
+}
+
+#[test]
+fn addresses_are_below_n_or_63() {
+    for n in [2, 10, 62, 63] {
+        for address in 0..=255 {
+            let right = address < n || address == 63;
+            assert_eq!(request(0, address, 0, 0).look(n).is_ok(), right);
+            assert_eq!(change(address).look(n).is_ok(), right);
+        }
+        for node in 0..=255 {
+            assert_eq!(clock(node).look(n).is_ok(), node < n);
+        }
+    }
+}
+
+/// Kind 7: 5 before 7; "the Dest's own address, or a non-zero field here, is 7".
+#[test]
+fn change_of_each_signal() {
+    // Case B, just after the clock that puts out Start, Dhead, Dest, Header, Data, End.
+    let bus = |clocks: usize| after(2, &case_b()[..1 + 2 * clocks]);
+    for clocks in [1, 2, 6] {
+        for address in [0, 1, 63] {
+            assert_eq!(refused(&bus(clocks), change(address)), 7);
+        }
+        assert_eq!(refused(&bus(clocks), change(10)), 5);
+    }
+    assert_eq!(refused(&bus(3), change(1)), 7);
+    assert_eq!(refused(&bus(3), change(2)), 5);
+    assert_eq!(bus(3).step(&change(0)), Ok(None));
+    assert_eq!(bus(3).step(&change(63)), Ok(None));
+    for clocks in [4, 5] {
+        assert_eq!(refused(&bus(clocks), change(1)), 7);
+        assert_eq!(refused(&bus(clocks), change(63)), 7);
+        assert_eq!(refused(&bus(clocks), change(10)), 5);
+        assert_eq!(bus(clocks).step(&change(0)), Ok(None));
+    }
+}
+
+#[test]
+fn lose_only_for_header_data_ack() {
+    let open: Vec<bool> =
+        (1..=6).map(|clocks| after(2, &case_b()[..1 + 2 * clocks]).step(&lose()).is_ok()).collect();
+    assert_eq!(open, [false, false, false, true, true, false]);
+    // Start, Ack and End of the acknowledgement are put out at 16, 18 and 20.
+    let open: Vec<bool> =
+        [17, 19, 21].map(|count| after(2, &case_b()[..count]).step(&lose()).is_ok()).into();
+    assert_eq!(open, [false, true, false]);
+}
+
+/// In each phase, one action of each kind with right fields: which are 7.
+#[test]
+fn kinds_open_in_each_phase() {
+    let kinds = |bus: &Bus| -> Vec<u8> {
+        let records = [
+            request(1, 0, 0, 0),
+            arbitrate(1),
+            respond(1, 0, 0),
+            clock(0),
+            pass(),
+            lose(),
+            change(0),
+            grant(),
+            gap(),
+            reset(),
+        ];
+        records.iter().filter(|record| bus.clone().step(record).is_ok()).map(|r| r.kind).collect()
+    };
+    assert_eq!(kinds(&fresh(2)), [1]);
+    assert_eq!(kinds(&after(2, &[request(1, 0, 0, 0)])), [2]);
+    let run = case_b();
+    assert_eq!(kinds(&after(2, &run[..2])), [1, 4], "Busy");
+    assert_eq!(kinds(&after(2, &run[..3])), [1, 5], "Delivering Start, 1 in Rest");
+    assert_eq!(kinds(&after(2, &run[..4])), [4], "Busy, 1 in Opened");
+    assert_eq!(kinds(&after(2, &run[..7])), [5, 7], "Delivering Dest");
+    assert_eq!(kinds(&after(2, &run[..9])), [5, 6, 7], "Delivering Header");
+    assert_eq!(kinds(&after(2, &run[..14])), [8], "Granting");
+    assert_eq!(kinds(&after(2, &run[..15])), [3], "Busy, 1 in Answering, the holder");
+    assert_eq!(kinds(&after(2, &run[..22])), [1, 9], "Gapping");
+    assert_eq!(kinds(&after(2, &run)), [1, 10], "Idle again, 0 has won");
+}
+
+#[test]
+fn no_state() {
+    let good = fresh(3);
+    let with_node = |mode| {
+        let mut bus = fresh(3);
+        bus.nodes[1].mode = mode;
+        bus
+    };
+    let delivering = |sender, signal, receiver| Bus {
+        phase: Phase::Delivering { sender, signal, receiver },
+        ..fresh(3)
+    };
+    let mut in_buffer = fresh(3);
+    in_buffer.nodes[2].buffer = Some(Packet { address: 3, header: 0, data: 0 });
+    let mut in_sending = fresh(3);
+    in_sending.nodes[2].sending.address = 62;
+    let states = [
+        Bus { n: 0, ..good.clone() },
+        Bus { n: 1, ..good.clone() },
+        Bus { n: 64, ..good.clone() },
+        Bus { n: 255, ..good.clone() },
+        delivering(3, Signal::Start, 1),
+        delivering(0, Signal::Start, 3),
+        delivering(1, Signal::Start, 1),
+        delivering(0, Signal::Dest(3), 1),
+        delivering(0, Signal::Dest(64), 1),
+        delivering(0, Signal::Ack(16, Check::Good), 1),
+        delivering(0, Signal::Ack(16, Check::Bad), 1),
+        Bus { phase: Phase::Gapping { node: 3 }, ..good.clone() },
+        in_buffer,
+        in_sending,
+        with_node(Mode::Sending { step: 6 }),
+        with_node(Mode::Acking { step: 3, ack: 0, hold: false }),
+        with_node(Mode::Acking { step: 0, ack: 16, hold: false }),
+        with_node(Mode::AckEnd { good: Some(16) }),
+    ];
+    for state in states {
+        // 12 comes before all others, whatever the action.
+        assert_eq!(
+            refused(&state, Record::default()),
+            12,
+            "{:?} {:?}",
+            state.phase,
+            state.nodes[1]
+        );
+        assert_eq!(refused(&state, request(0, 1, 0, 0)), 12);
+    }
+    let states = [
+        delivering(2, Signal::Dest(63), 0),
+        delivering(0, Signal::Dest(2), 1),
+        delivering(0, Signal::Ack(15, Check::Bad), 1),
+        Bus { phase: Phase::Gapping { node: 2 }, ..good },
+        with_node(Mode::Sending { step: 5 }),
+        with_node(Mode::Acking { step: 2, ack: 15, hold: true }),
+        with_node(Mode::AckEnd { good: Some(15) }),
+        with_node(Mode::AckEnd { good: None }),
+    ];
+    for state in states {
+        assert!(state.is_state());
+        assert_eq!(refused(&state, Record::default()), 2);
+    }
+}
+
+/// "Records and marks of nodes from n on are neither read nor changed".
+#[test]
+fn nodes_from_n_on() {
+    let mut bus = fresh(2);
+    let beyond = Marks(!0b11);
+    (bus.won, bus.pending, bus.holder, bus.misled) = (beyond, beyond, beyond, beyond);
+    for node in &mut bus.nodes[2..] {
+        node.mode = Mode::Sending { step: 200 };
+        node.buffer = Some(Packet { address: 200, header: 0, data: 0 });
+        node.sending.address = 200;
+    }
+    let (records, mut seen) = (bus.nodes, bus.clone());
+    assert_eq!(refused(&bus, reset()), 7, "no won mark below n");
+    for record in case_b() {
+        seen.step(&record).expect("as on a fresh bus");
+        for marks in [seen.won, seen.pending, seen.holder, seen.misled] {
+            assert_eq!(marks.0 & beyond.0, beyond.0);
+        }
+        assert_eq!(seen.nodes[2..], records[2..]);
+    }
+    assert_eq!(seen.phase, Phase::Idle);
+    seen.step(&reset()).expect("0 has won");
+    assert_eq!(seen.won, beyond);
+    let granting = Bus { phase: Phase::Granting, ..bus };
+    let mut granted = granting.clone();
+    assert_eq!(granted.act(Action::Grant), Ok(None), "none pending below n: open, and Busy");
+    assert_eq!(granted, Bus { phase: Phase::Busy, ..granting });
+}
