@@ -15,3 +15,6 @@ pub mod Validity
 pub mod Beyond
 pub mod Views
 pub mod Cases
+pub mod Payload
+pub mod Answers
+pub mod Whole

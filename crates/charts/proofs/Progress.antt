@@ -9,7 +9,7 @@ use native.Mathlib.Omega.{arith}
 use lib.Dec.{T, eqb, ltb, leb, lit<}
 use borrow.Author.Tests.{eqb-true, eqb-false, ltb-true, ltb-false, eq-eqb, ne-eqb, leb-true, not-true, lt-leb}
 use Rattle.charts.specs.declared.Mode.{Mode}
-use Rattle.charts.specs.declared.Mode.the-variants.{Rest, Sending, Answering, Spurious}
+use Rattle.charts.specs.declared.Mode.the-variants.{Sending, Answering, Spurious}
 use Rattle.charts.specs.declared.Signal.{Signal}
 use Rattle.charts.specs.declared.Signal.the-variants.{Start, End, Prefix, Gap, Dhead, Dest, Header, Data, Ack}
 use Rattle.charts.specs.declared.Report.{Report}
@@ -27,7 +27,7 @@ use Rattle.charts.specs.Signals as S
 use Rattle.charts.specs.Signals.{kindOf, isEnd}
 use Rattle.charts.specs.Reception.{hears}
 use Rattle.charts.specs.Arrivals.{passed}
-use Rattle.charts.specs.State.{State, setMode, setHolder, pendings, holders, upd, some, others, lowest, every, moved, cleared}
+use Rattle.charts.specs.State.{State, pendings, holders, upd, some, others, lowest, every, moved, cleared}
 use Rattle.charts.specs.Actions.{does, firstOther, nextOther, putsOut, freed, afterFree, onward, granted, afterGrant, takesGap, afterGap}
 use Rattle.charts.specs.Demand.{forward}
 use Rattle.charts.proofs.Tools.{never, clash, implies, implied, and-true, neither, or-true, pick-by, at-upd, at-upd≢, upd-same, upd-other, upd-map, none-of, some-at, some-agree, others-off, lowest-of, lowest-lt, table-at, mem, everyIn, mem-sub, mem-two}
@@ -388,7 +388,7 @@ module _ (s : State) (w : ℕ) (g : Signal) (j : ℕ) (a : Delivery (s .n) (s .c
         go : (b : Bool) → eqb (a .d) 6 ≡ b → Goes true was Busy (s .n) cells
         go true q =
             let z = clear-lands (s .n) cells w (a .here) ms (subst (λ d. mem (stepOf (cells w .mode)) (rowAt d .sender) ≡ true) (eqb-true (a .d) 6 q) sends-on)
-                (λ k l o. subst (λ d. mem (placeOf (cells k .mode)) (rowAt d .after) ≡ true) (eqb-true (a .d) 6 q) (everyone k l o)) in
+            (λ k l o. subst (λ d. mem (placeOf (cells k .mode)) (rowAt d .after) ≡ true) (eqb-true (a .d) 6 q) (everyone k l o)) in
             record { stage = z .0; lower = λ e. less _ (subst (λ d. busyRank (s .n) cells (z .0) ≤ rowRank d (stepOf (cells w .mode)) (s .n)) (sym (eqb-true (a .d) 6 q)) (z .1)) }
         go false q =
             let z = turn-lands (s .n) cells w (a .here) ms (a .d) (a .d-lt) (ap not (neither _ _ (ap (λ k. eqb k 1) (sym (a .kind)) ∙ e) q)) sends-on everyone in

@@ -372,8 +372,8 @@ module _ (n i a : ℕ) (before later : List Event) (m : Move) (s : Aside m) (all
   ack : whole .wrong ≡ false → AllHonest (whole .confirmed) → Witnessed i a before
   ack w h =
       let e : whole ≡ bookOf i later (confirms (Acked i a) (b .running) b) =
-        book-append i before _ newBook ∙ ap (λ c. bookOf i later (reports (eqb i i) (Acked i a) c)) (s .no-entry _ b)
-        ∙ ap (λ y. bookOf i later (reports y (Acked i a) b)) (eq-eqb i i refl) in
+      book-append i before _ newBook ∙ ap (λ c. bookOf i later (reports (eqb i i) (Acked i a) c)) (s .no-entry _ b)
+      ∙ ap (λ y. bookOf i later (reports y (Acked i a) b)) (eq-eqb i i refl) in
       confirmed-by (b .running) refl (subst (λ c. c .wrong ≡ false) e w) (subst (λ c. AllHonest (c .confirmed)) e h)
 
 -- every acknowledgement has its start, its told report and its respond, and nothing else between

@@ -1,9 +1,9 @@
 -- The one walk through the actions: the fourteen ways in which an accepted action acts. Every invariant is then proved by one clause for each way.
 use mathlib.Core.Path.{_≡_, refl, sym, ap, subst, _∙_}
-use mathlib.Core.Bool.{Bool, true, false, cond, _&&_, not}
-use Prim.Native.Nat.{ℕ, suc, _≤_}
+use mathlib.Core.Bool.{Bool, true, false, _&&_, not}
+use Prim.Native.Nat.{ℕ, _≤_}
 use native.Mathlib.Omega.{arith}
-use lib.Dec.{eqb, ltb, leb}
+use lib.Dec.{eqb, leb}
 use borrow.Author.Tests.{eqb-true, eqb-false, not-true}
 use Rattle.charts.specs.declared.Head.{Head}
 use Rattle.charts.specs.declared.Mode.{Mode}
@@ -27,13 +27,13 @@ use Rattle.charts.specs.declared.Move.{Move}
 use Rattle.charts.specs.declared.Move.the-variants.{Request, Arbitrate, Respond, Clock, Carry, Grant, GapNext, Reset}
 use Rattle.charts.specs.Modes as P
 use Rattle.charts.specs.Modes.{placeOf, isRest, isHolding, isAnswering}
-use Rattle.charts.specs.Signals.{everybody, kindOf, isStart, isEnd}
+use Rattle.charts.specs.Signals.{everybody, kindOf}
 use Rattle.charts.specs.Reception.{hears}
 use Rattle.charts.specs.Outputs as Outputs
 use Rattle.charts.specs.Outputs.{output}
 use Rattle.charts.specs.Arrivals as Arrivals
 use Rattle.charts.specs.Arrivals.{passed}
-use Rattle.charts.specs.State.{State, setMode, setBuffer, setWon, setPending, setHolder, wons, pendings, holders, some, others, lowest, isIdle, isBusy, isGranting, isEmpty}
+use Rattle.charts.specs.State.{State, wons, pendings, holders, some, others, lowest, isIdle, isBusy, isGranting, isEmpty}
 use Rattle.charts.specs.Actions as Actions
 use Rattle.charts.specs.Actions.{Outcome, closed, does, quietly, when, fills, answers, firstOther, putsOut, clearedBy, freed, afterFree, hearing, delivers, takesGrant, afterGrant, takesGap, afterGap, nextOf}
 use Rattle.charts.specs.Step.{about, comesTo}
@@ -87,7 +87,7 @@ pub data Effect (s : State) : Move → ℕ → Outcome → Type 0 where
       Effect s GapNext j (does (hears j (s .cell j .mode) Gap .report) (afterGap (s .n) j) (takesGap j (s .cell j)) C.Nothing)
   resets : {i : ℕ} → s .phase ≡ Idle → Effect s Reset i (does R.Silent (s .phase) (s .cell i) C.Won)
 
-is-idle : (p : Phase) → isIdle p ≡ true → p ≡ Idle
+pub is-idle : (p : Phase) → isIdle p ≡ true → p ≡ Idle
 is-idle Idle e = refl
 is-idle Busy e = never e
 is-idle (Delivering w g j) e = never e
