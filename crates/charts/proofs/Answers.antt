@@ -11,7 +11,7 @@ use Rattle.charts.specs.declared.Seen.the-variants as Sn
 use Rattle.charts.specs.declared.Mode.{Mode}
 use Rattle.charts.specs.declared.Mode.the-variants.{Rest, AckBody, AckEnd, Sending, Answering, Acking, Spurious}
 use Rattle.charts.specs.declared.Signal.{Signal}
-use Rattle.charts.specs.declared.Signal.the-variants.{Start, End, Prefix, Gap, Dhead, Dest, Header, Data, Ack}
+use Rattle.charts.specs.declared.Signal.the-variants.{End, Gap, Ack}
 use Rattle.charts.specs.declared.Report.{Report}
 use Rattle.charts.specs.declared.Report.the-variants.{Silent, Won, Sent, Acked, Miss, Good, Dcrc, Broad}
 use Rattle.charts.specs.declared.Packet.{Packet}
@@ -31,18 +31,19 @@ use Rattle.charts.specs.Modes.{placeOf, isTold, isOwed}
 use Rattle.charts.specs.Signals as S
 use Rattle.charts.specs.Signals.{everybody, classOf, kindOf, closes, ackOf, isStart, isEnd}
 use Rattle.charts.specs.Reception.{answer, hears}
-use Rattle.charts.specs.Arrivals.{passed}
 use Rattle.charts.specs.State.{State, setMode, setHolder, upd, every, some, others, pendings, holders, moved, cleared, fresh}
 use Rattle.charts.specs.Actions.{does, firstOther, nextOther, onward, hearing, granted}
 use Rattle.charts.specs.Step.{accepted}
 use Rattle.charts.specs.Demand as Demand
 use Rattle.charts.specs.Demand.{Note, told, gave, Run, none, run, Book, newBook, asks, confirms, note, notes, nodeOf, moves, reports, enters, Acknowledged, Honest, AllHonest}
-use Rattle.charts.proofs.Tools.{never, clash, implies, implied, and-true, or-yes, pick, pick-by, at-upd, at-upd≢, upd-same, upd-other, table-at, pairs-at, mem, everyIn, mem-sub}
-use Rattle.charts.proofs.Places.{mode-is, law, law-mode, wordOf, ackIn, active, stepOf, ackingAt}
-use Rattle.charts.proofs.Payload.{by-test, OthersIn, answerers, sends, Carry, Tells, told-none, told-good, told-dcrc, told-broad, signal-is, answers-to, past, inRow, in-row, row-in, turn-in, holding-past, carries}
+use Rattle.charts.proofs.Tools.{never, clash, implies, implied, and-true, or-yes, pick, pick-by, at-upd, at-upd≢, upd-same, upd-other, table-at, pairs-at, mem, everyIn, mem-sub, by-test}
+use Rattle.charts.proofs.Words as W
+use Rattle.charts.proofs.Words.{wordOf}
+use Rattle.charts.proofs.Places.{mode-is, law, law-mode, ackIn, active, stepOf, ackingAt}
+use Rattle.charts.proofs.Payload.{OthersIn, sends, Carry, Tells, told-none, told-good, told-dcrc, told-broad, signal-is, answers-to, past, inRow, in-row, row-in, turn-in, holding-past, carries}
 use Rattle.charts.proofs.Stages.{rowAt, turnAt, quiet, grantSteps, clearSteps, Delivery, BusyAt, talks, clears, Stage}
-use Rattle.charts.proofs.Reach.{Reach, allBelow, mem-below, low-places, step-place, is-talker, no-turn}
-use Rattle.charts.proofs.Ways.{Puts, start, dhead, dest, header, datum, end-all, end-one, filler, ack-start, ack-body, ack-hold, ack-end, holds-on, Arrives, passes, redirects, bad-header, bad-data, bad-ack, Effect, waits, replies, wins, loses, gives, puts, frees, arrives, drops, grants, grants-none, gaps, resets}
+use Rattle.charts.proofs.Reach.{Reach, answerers, allBelow, mem-below, low-places, step-place, is-talker, no-turn}
+use Rattle.charts.proofs.Ways.{passed-by, Puts, start, dhead, dest, header, datum, end-all, end-one, filler, ack-start, ack-body, ack-hold, ack-end, holds-on, Arrives, passes, redirects, bad-header, bad-data, bad-ack, Effect, waits, replies, wins, loses, gives, puts, frees, arrives, drops, grants, grants-none, gaps, resets}
 use Rattle.charts.proofs.Books.{Kept, Runs, ours, By, silent, acks, misses, good, dcrc, broad, by, conf, leaves, remains, holdOf}
 
 -- WHAT A NODE SAYS OF A REQUEST, by its mode: nothing; that it was told; the acknowledgement that its user gave
@@ -277,7 +278,7 @@ module _ (s : State) (bk : ℕ → Book) (v : Heed s bk) where
 -- HEARING A SIGNAL
 -- the words of the reports good and dcrc; the places from which a node reports what it read
 abbrev tells : ℕ → Bool
-tells w = mem w (6 ∷ 7 ∷ [])
+tells w = mem w (W.good ∷ W.dcrc ∷ [])
 
 abbrev tails : List ℕ
 tails = P.tailOwnGood ∷ P.tailOwnBad ∷ P.tailAllGood ∷ []
@@ -312,10 +313,10 @@ unfolding hears
 reports-ack j m g a e = (q, go (classOf j g) (subst (λ (x : Mode). Acked j a ≡ hears j x g .report) (mode-is m P.ackGood q) e))
   where
     q : placeOf m ≡ P.ackGood
-    q = eqb-true _ _ (implied _ _ (law (λ y p c. implies (eqb (y .word) 4) (eqb p P.ackGood)) tt j m g) (ap (λ r. eqb (wordOf r) 4) (sym e)))
+    q = eqb-true _ _ (implied _ _ (law (λ y p c. implies (eqb (y .word) W.acked) (eqb p P.ackGood)) tt j m g) (ap (λ r. eqb (wordOf r) W.acked) (sym e)))
 
     missed : Acked j a ≡ Miss j → ackIn m ≡ a
-    missed z = absurd (let y : _≡_ {A = ℕ} 4 5 = ap wordOf z in omega arith)
+    missed z = absurd (let y : _≡_ {A = ℕ} W.acked W.miss = ap wordOf z in omega arith)
 
     go : (c : ℕ) → Acked j a ≡ answer j (AckEnd (Sn.Ack (ackIn m))) c g .report → ackIn m ≡ a
     go c = pick (λ (x : Heard). Acked j a ≡ x .report → ackIn m ≡ a) (closes c) _ _ (λ z. cc) (pick (λ (x : Heard). Acked j a ≡ x .report → ackIn m ≡ a) (eqb c S.gap) _ _ missed missed)
@@ -410,7 +411,7 @@ module _ (s : State) (bk : ℕ → Book) (v : Heed s bk) (p : Packet) (ca : Carr
         go r dcrc q (told-dcrc e f) = tells-heed _ (inr (cc)) e (ap (λ r. tells (wordOf r)) (sym q))
         go r broad q (told-none e) = never e
         go r (broad {h = h} {d = d}) q (told-broad e) =
-            let f : mem (placeOf m₀) tails ≡ true = implied _ _ (law (λ y p c. implies (eqb (y .word) 8) (mem p tails)) tt j m₀ t) (ap (λ r. eqb (wordOf r) 8) (sym q)) in
+            let f : mem (placeOf m₀) tails ≡ true = implied _ _ (law (λ y p c. implies (eqb (y .word) W.broad) (mem p tails)) tt j m₀ t) (ap (λ r. eqb (wordOf r) W.broad) (sym q)) in
             calm s bk v ph j _ (λ k. notes (told (Broad j h d)) (bk k)) (λ k kl o u. absurd (none-ours e f k kl u)) (says-same q refl)
             (own-none s bk v j m₁ _ (remains j m₀ t (ap (λ r. not (conf (wordOf r))) (sym q)) ∙ not-true _ (by-place (λ p. mem p tails) (λ p. not (ours p)) tt m₀ f))) ack (v .honest)
 
@@ -450,22 +451,11 @@ only-awaits n f w g j a e k kl o =
 
 -- what arrives as an Ack is one, with the same acknowledgement
 arrives-ack : {w : Bool} {v : Way} {g t : Signal} {b : Bool} → Arrives w v g t b → isAck t ≡ true → (isAck g ≡ true) × (ackOf g ≡ ackOf t)
-arrives-ack {w = w} {g = g} passes e = go g e
-  where
-    go : (g : Signal) → isAck (passed w g) ≡ true → (isAck g ≡ true) × (ackOf g ≡ ackOf (passed w g))
-    go Start e = never e
-    go End e = never e
-    go Prefix e = never e
-    go Gap e = never e
-    go Dhead e = never e
-    go (Dest a) e = never e
-    go (Header h c) e = never e
-    go (Data d c) e = never e
-    go (Ack a c) e = (refl, refl)
-arrives-ack (redirects q) e = never e
-arrives-ack bad-header e = never e
-arrives-ack bad-data e = never e
-arrives-ack bad-ack e = (refl, refl)
+arrives-ack {w = w} {g = g} passes = passed-by (λ x. isAck x ≡ true → (isAck g ≡ true) × (ackOf g ≡ ackOf x)) w g (λ e. (e, refl)) (λ h c d q e. never e)
+arrives-ack (redirects q) = never
+arrives-ack bad-header = never
+arrives-ack bad-data = never
+arrives-ack bad-ack = λ e. (refl, refl)
 
 -- what a move makes of a book: a request changes no confirmation, and one that waits no running request
 asks-confirmed : (b h : Bool) (i : ℕ) (p : Packet) (x : Book) → x .held ≡ h → moves b (Request i p) x .confirmed ≡ x .confirmed

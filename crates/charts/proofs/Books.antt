@@ -39,7 +39,9 @@ use Rattle.charts.specs.Step.{Result, step, after, Event, accepted, even
 use Rattle.charts.specs.Demand as Demand
 use Rattle.charts.specs.Demand.{Note, gave, Run, none, run, Book, newBook, isRun, asks, confirms, note, notes, holdsFor, moverOf, nodeOf, moves, reports, enters, bookOf}
 use Rattle.charts.proofs.Tools.{never, clash, implies, implied, and-true, neither, beq-eq, pick, pick-by, table-at, mem}
-use Rattle.charts.proofs.Places.{holdIn, stepIn, ackIn, headIn, datumIn, modes, mode-at, mode-is, place-lt, wordOf, law}
+use Rattle.charts.proofs.Words as W
+use Rattle.charts.proofs.Words.{wordOf}
+use Rattle.charts.proofs.Places.{holdIn, stepIn, ackIn, headIn, datumIn, modes, mode-at, mode-is, place-lt, law}
 use Rattle.charts.proofs.Ways.{Puts, start, dhead, dest, header, datum, end-all, end-one, filler, ack-start, ack-body, ack-hold, ack-end, holds-on, Effect, waits, replies, wins, loses, gives, puts, frees, arrives, drops, grants, grants-none, gaps, resets}
 use Rattle.charts.proofs.Steps.{Stepped, refused, acts, stepped}
 
@@ -134,7 +136,7 @@ by-node j r x = of-node j r (by-of x)
 
 -- sent, ack and miss by their words: a node that hears reports one of them exactly where it leaves those modes
 abbrev pub conf : ℕ → Bool
-conf w = eqb w 3 || eqb w 4 || eqb w 5
+conf w = mem w (W.sent ∷ W.acked ∷ W.miss ∷ [])
 
 pub leaves : (me : ℕ) (m : Mode) (g : Signal) → conf (wordOf (hears me m g .report)) ≡ true → (ours (placeOf m) ≡ true) × (ours (placeOf (hears me m g .mode)) ≡ false)
 leaves me m g e =

@@ -3,13 +3,16 @@ use mathlib.Core.Path.{_≡_, refl}
 use mathlib.Core.Bool.{false, cond, true≢false}
 use mathlib.Core.List.{List, [], _∷_, _++_, map}
 use Prim.Native.Nat.{ℕ, zero, suc}
-use lib.ListN.{set, take}
+use lib.Dec.{lit≤}
+use lib.ListN.{set, take, drop}
 use Rattle.charts.specs.declared.Head.{Head}
 use Rattle.charts.specs.declared.Signal.the-variants.{Prefix}
 use Rattle.charts.specs.declared.Report.{Report}
 use Rattle.charts.specs.declared.Report.the-variants.{Silent, Won, Lost, Sent, Acked, Miss, Good, Dcrc, Broad}
 use Rattle.charts.specs.declared.Phase.{Phase}
 use Rattle.charts.specs.declared.Phase.the-variants.{Idle, Busy, Delivering, Granting, Gapping}
+use Rattle.charts.specs.declared.Way.the-variants.{Pass}
+use Rattle.charts.specs.declared.Move.the-variants.{Carry}
 use Rattle.charts.specs.declared.Action.{Action}
 use Rattle.charts.specs.Numbers as N
 use Rattle.charts.specs.Reception.{hears}
@@ -21,6 +24,9 @@ use Rattle.charts.specs.Actions.{outcome}
 use Rattle.charts.specs.Records.{clean, moveOf, read}
 use Rattle.charts.specs.Valid.{modeFits, cellFits, phaseFits, valid}
 use Rattle.charts.specs.Step.{Result, Event, refuses, play, look, step, begin, after, results, isAccepted}
+use Rattle.charts.specs.Demand.{history}
+use Rattle.charts.specs.Stretch.{Witnessed}
+use Rattle.charts.proofs.Whole.{every-ack-of}
 use Rattle.charts.proofs.Steps as S
 use Rattle.charts.proofs.Steps.{Stepped, stepped}
 
@@ -159,6 +165,11 @@ table =
 pub cases : map (λ (r : Row). shows (r .nodes) (r .actions)) table ≡ map (λ (r : Row). r .shown) table
 unfolding step look play outcome Actions.request Actions.arbitrate Actions.respond Actions.clock Actions.carry Actions.grant Actions.gap Actions.reset output arrives hears clean moveOf read valid phaseFits cellFits modeFits
 cases = refl
+
+-- the theorem speaks of these runs: the `ack 1` of B, at 21, stands behind its request's start, a told report and a respond
+pub b-witnessed : Witnessed 0 1 (take 21 (history 2 b))
+unfolding step look play outcome Actions.request Actions.arbitrate Actions.respond Actions.clock Actions.carry Actions.grant Actions.gap Actions.reset output arrives hears clean moveOf read valid phaseFits cellFits modeFits
+b-witnessed = every-ack-of 2 (lit≤ tt) (lit≤ tt) b (take 21 (history 2 b)) (drop 22 (history 2 b)) (Carry Pass) 0 1 refl
 
 -- a fresh bus handed out
 abbrev hands : ℕ → Result

@@ -1,4 +1,5 @@
 pub mod Tools
+pub mod Words
 pub mod Places
 pub mod Ways
 pub mod Steps

@@ -2,7 +2,7 @@
 use mathlib.Core.Path.{_≡_, refl, sym, ap, subst, _∙_}
 use mathlib.Core.Logic.{_≢_}
 use mathlib.Core.Bool.{Bool, true, false, cond, _&&_, _||_, not, true≢false}
-use mathlib.Core.List.{List, [], _∷_}
+use mathlib.Core.List.{[], _∷_}
 use Prim.Native.Nat.{ℕ, _<_}
 use lib.Dec.{eqb, ltb, leb}
 use borrow.Author.Tests.{eqb-true, lt-ltb}
@@ -38,7 +38,7 @@ use Rattle.charts.specs.Demand.{forward, isForward}
 use Rattle.charts.proofs.Tools.{never, clash, implies, implied, pick, none-of, lowest-of, lowest-lt, others-none, table-at, mem, mem-one, neither, or-yes}
 use Rattle.charts.proofs.Places.{law-mode, active, stepIn, ackIn, holdIn, stepOf, mode-is}
 use Rattle.charts.proofs.Stages.{turnAt, clearSteps, acting, BusyAt, talks, clears, Stage}
-use Rattle.charts.proofs.Reach.{Reach, is-talker}
+use Rattle.charts.proofs.Reach.{Reach, answerers, is-talker}
 use Rattle.charts.proofs.Progress.{acting-step, odd-clear}
 
 pub data Opens : Outcome → Type 0 where
@@ -47,10 +47,6 @@ pub data Opens : Outcome → Type 0 where
 open-when : (b : Bool) (o : Outcome) → b ≡ true → Opens o → Opens (when b o)
 open-when true o e x = x
 open-when false o e x = never e
-
--- the nodes that were told, and answer
-abbrev pub answerers : List ℕ
-answerers = P.told ∷ P.answering ∷ P.acking ∷ []
 
 -- a node that acts while the bus clears, and is not spurious, answers
 clear-answers : (m : Mode) → mem (stepOf m) clearSteps ≡ true → active (placeOf m) ≡ true → eqb (placeOf m) P.spurious ≡ false → mem (placeOf m) answerers ≡ true

@@ -35,27 +35,21 @@ use Rattle.charts.specs.Reception.{hears, falls}
 use Rattle.charts.specs.Arrivals.{passed}
 use Rattle.charts.specs.State.{State, setMode, setHolder, every, some, others, pendings, holders, moved, cleared, fresh}
 use Rattle.charts.specs.Actions.{does, firstOther, nextOther, onward, granted}
-use Rattle.charts.proofs.Tools.{never, clash, implies, implied, and-true, or-false, or-no, or-yes, pick, pick-by, at-upd, at-upd≢, mem, everyIn, mem-sub}
-use Rattle.charts.proofs.Places.{mode-is, law, law-mode, wordOf, active, stepOf, sendingAt, ackingAt}
+use Rattle.charts.proofs.Tools.{never, clash, implies, implied, and-true, or-false, or-no, or-yes, pick, pick-by, at-upd, at-upd≢, mem, everyIn, mem-sub, by-test}
+use Rattle.charts.proofs.Words as W
+use Rattle.charts.proofs.Words.{wordOf}
+use Rattle.charts.proofs.Places.{mode-is, law, law-mode, active, stepOf, sendingAt, ackingAt}
 use Rattle.charts.proofs.Stages.{Row, rowAt, turnAt, quiet, grantSteps, clearSteps, Delivery, Talk, BusyAt, talks, clears, Stage}
 use Rattle.charts.proofs.Ways.{Puts, start, dhead, dest, header, datum, end-all, end-one, filler, ack-start, ack-body, ack-hold, ack-end, holds-on, Arrives, passes, redirects, bad-header, bad-data, bad-ack, Effect, waits, replies, wins, loses, gives, puts, frees, arrives, drops, grants, grants-none, gaps, resets}
-use Rattle.charts.proofs.Reach.{Reach, is-talker, is-sender, row-fact, turn-fact, no-turn, not-clearing, sole-quiet}
+use Rattle.charts.proofs.Reach.{Reach, answerers, is-talker, is-sender, row-fact, turn-fact, no-turn, not-clearing, sole-quiet}
 
 -- the nodes other than i are in places of `room`
 abbrev pub OthersIn : List ℕ → ℕ → (ℕ → Cell) → ℕ → Type 0
 OthersIn room n f i = (k : ℕ) → k < n → k ≢ i → mem (placeOf (f k .mode)) room ≡ true
 
--- a fact by cases of a test
-pub by-test : {A : Type 0} (b : Bool) → (b ≡ true → A) → (b ≡ false → A) → A
-by-test true f g = f refl
-by-test false f g = g refl
-
--- a node in such a mode remembers nothing of a packet; one in such a mode was told of it and answers
+-- a node in such a mode remembers nothing of a packet
 abbrev pub blank : List ℕ
 blank = P.rest ∷ P.awaitAck ∷ P.ackBody ∷ P.ackGood ∷ P.ackNone ∷ P.opened ∷ P.addressed ∷ P.wait ∷ P.owed ∷ P.sending ∷ P.holding ∷ P.spurious ∷ []
-
-abbrev pub answerers : List ℕ
-answerers = P.told ∷ P.answering ∷ P.acking ∷ []
 
 -- good data are the packet's; of bad data nothing is kept
 abbrev pub Read : Packet → Datum → Type 0
@@ -75,7 +69,7 @@ pub data Bears (p : Packet) (k : ℕ) (misled : Bool) : Mode → Type 0 where
 
 -- a report tells of p only
 pub data Tells (p : Packet) : Report → Type 0 where
-  told-none : {r : Report} → ltb (wordOf r) 6 ≡ true → Tells p r
+  told-none : {r : Report} → ltb (wordOf r) W.good ≡ true → Tells p r
   told-good : {k d : ℕ} {h : Head} → p .to ≡ k → h ≡ p .head → d ≡ p .datum → Tells p (Good k h d)
   told-dcrc : {k : ℕ} {h : Head} → p .to ≡ k → h ≡ p .head → Tells p (Dcrc k h)
   told-broad : {k d : ℕ} {h : Head} → p .to ≡ everybody → Tells p (Broad k h d)
@@ -153,7 +147,7 @@ module _ (p : Packet) (k : ℕ) (w : Bool) where
   abbrev Fine : Heard → Type 0
   Fine x = (Bears p k w (x .mode)) × (Tells p (x .report))
 
-  plain : {m : Mode} {r : Report} → mem (placeOf m) blank ≡ true → ltb (wordOf r) 6 ≡ true → (Bears p k w m) × (Tells p r)
+  plain : {m : Mode} {r : Report} → mem (placeOf m) blank ≡ true → ltb (wordOf r) W.good ≡ true → (Bears p k w m) × (Tells p r)
   plain e f = (nothing e, told-none f)
 
   falling : (c : ℕ) → Fine (falls Silent Silent c)
@@ -168,7 +162,7 @@ module _ (p : Packet) (k : ℕ) (w : Bool) where
       pick-by Fine (eqb (classOf k g) S.destAll) _ _ (λ e. (led-all (λ o. sym (subst (Says p w) (signal-is k g S.destAll e) z o)), told-none refl)) λ n.
       falling (classOf k g)))
       (λ q. let y = and-true _ _ (implied _ _ (implied _ _
-      (law (λ y p c. implies (not (eqb p P.addressed)) (implies (mem p blank) (mem (y .place) blank && ltb (y .word) 6))) tt k m g) (ap not q)) e) in plain (y .0) (y .1))
+      (law (λ y p c. implies (not (eqb p P.addressed)) (implies (mem p blank) (mem (y .place) blank && ltb (y .word) W.good))) tt k m g) (ap not q)) e) in plain (y .0) (y .1))
   heard g z (led-own f) =
       pick-by Fine (eqb (classOf k g) S.headerGood) _ _ (λ e. let y = subst (Says p w) (signal-is k g S.headerGood e) z in (head-own (f (y .0 refl)) (y .1), told-none refl)) (λ e. plain refl refl)
   heard g z (led-all f) =
@@ -185,7 +179,7 @@ module _ (p : Packet) (k : ℕ) (w : Bool) where
   heard g z (tail-all {d = D.Good d} a h r) = pick Fine (closes (classOf k g)) _ _ (nothing refl, told-broad a) (falling (classOf k g))
   heard g z (tail-all {d = D.Bad} a h r) = pick Fine (closes (classOf k g)) _ _ (plain refl refl) (falling (classOf k g))
   heard g z (answers {m = m} e a) =
-      let y = and-true _ _ (implied _ _ (law (λ y p c. implies (mem p answerers) (mem (y .place) answerers && ltb (y .word) 6)) tt k m g) e) in (answers (y .0) a, told-none (y .1))
+      let y = and-true _ _ (implied _ _ (law (λ y p c. implies (mem p answerers) (mem (y .place) answerers && ltb (y .word) W.good)) tt k m g) e) in (answers (y .0) a, told-none (y .1))
 
 -- what arrives of a signal of p says what it may, and the mark that it leaves spoils nothing that the node remembers
 passed-says : (p : Packet) (w : Bool) (g : Signal) → Says p false g → Says p (w || false) (passed w g)
@@ -318,7 +312,7 @@ module _ (p : Packet) (s : State) (v : Carry p s) (re : Reach s) (i : ℕ) (l : 
   abbrev Out : Signal → Mode → State
   Out g m = moved s (Delivering i g (firstOther i)) i (setMode m (setHolder (not (isEnd g)) (s .cell i)))
 
-  on : {g : Signal} {m : Mode} {r : Report} → Says p false g → ltb (wordOf r) 6 ≡ true → Bears p i (s .cell i .misled) m → (sends (placeOf m) ≡ true → s .cell i .sending ≡ p) → Carries p r (Out g m)
+  on : {g : Signal} {m : Mode} {r : Report} → Says p false g → ltb (wordOf r) W.good ≡ true → Bears p i (s .cell i .misled) m → (sends (placeOf m) ≡ true → s .cell i .sending ≡ p) → Carries p r (Out g m)
   on z t a b = record { packet = p; carry = changes p s v _ i _ z a b; tells = told-none t }
 
   opens : {m : Mode} → ((w : Bool) → Bears p i w m) → (sends (placeOf m) ≡ true → s .cell i .sending ≡ p) → OthersIn blank (s .n) (s .cell) i → Carries p Silent (cleared C.Misled (Out Start m))
@@ -380,7 +374,7 @@ module _ (p : Packet) (s : State) (v : Carry p s) (re : Reach s) (i : ℕ) (l : 
       (pick (λ x. sends (placeOf x) ≡ true → sends (placeOf m) ≡ true) (isOwed m) _ _ (λ z. never z) (λ z. z))
 
   -- a report that tells nothing; a cell that stays
-  untold : {r : Report} {t : State} (q : Packet) → Carry q t → ltb (wordOf r) 6 ≡ true → Carries p r t
+  untold : {r : Report} {t : State} (q : Packet) → Carry q t → ltb (wordOf r) W.good ≡ true → Carries p r t
   untold q c e = record { packet = q; carry = c; tells = told-none e }
 
   stays : (ph : Phase) → SaysAt p ph → Carry p (moved s ph i (s .cell i))

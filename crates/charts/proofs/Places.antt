@@ -14,8 +14,6 @@ use Rattle.charts.specs.declared.Mode.{Mode}
 use Rattle.charts.specs.declared.Mode.the-variants.{Rest, AwaitAck, AckBody, AckEnd, Opened, Addressed, HeadOwn, HeadAll, BodyOwn, BodyAll, TailOwn, TailAll, Wait, Owed, Sending, Told, Answering, Acking, Holding, Spurious}
 use Rattle.charts.specs.declared.Signal.{Signal}
 use Rattle.charts.specs.declared.Signal.the-variants.{Start, End, Prefix, Gap, Dhead, Dest, Header, Data, Ack}
-use Rattle.charts.specs.declared.Report.{Report}
-use Rattle.charts.specs.declared.Report.the-variants.{Silent, Won, Lost, Sent, Acked, Miss, Good, Dcrc, Broad}
 use Rattle.charts.specs.declared.Heard.{Heard}
 use Rattle.charts.specs.Modes as P
 use Rattle.charts.specs.Modes.{placeOf}
@@ -23,6 +21,7 @@ use Rattle.charts.specs.Signals as S
 use Rattle.charts.specs.Signals.{classOf, isLine, closes}
 use Rattle.charts.specs.State.{every}
 use Rattle.charts.specs.Reception.{answer, hears}
+use Rattle.charts.proofs.Words.{wordOf}
 use Rattle.charts.proofs.Tools.{implies, pick, beq-eq, everyPair, table-at, pairs-at, mem}
 
 -- the clauses from here to `place-lt` are printed by tools/places.py
@@ -227,18 +226,6 @@ stepOf m = stepAt (placeOf m) (stepIn m)
 -- a test that passes at the 23 places holds of every mode
 pub law-mode : (f : ℕ → Bool) → T (every f 23) → (m : Mode) → f (placeOf m) ≡ true
 law-mode f t m = table-at f 23 t (placeOf m) (place-lt m)
-
--- the word of a report
-abbrev pub wordOf : Report → ℕ
-wordOf Silent = 0
-wordOf (Won i) = 1
-wordOf (Lost i) = 2
-wordOf (Sent i) = 3
-wordOf (Acked i a) = 4
-wordOf (Miss i) = 5
-wordOf (Good i h d) = 6
-wordOf (Dcrc i h) = 7
-wordOf (Broad i h d) = 8
 
 -- what matters of what a node heard: the place of its mode, whether it pends, and the word it reports
 pub record Next : Type 0 where

@@ -11,7 +11,7 @@ use borrow.Author.Tests.{eqb-true, eqb-false, ltb-true, ltb-false, eq-eqb, ne-eq
 use Rattle.charts.specs.declared.Mode.{Mode}
 use Rattle.charts.specs.declared.Mode.the-variants.{Sending, Answering, Spurious}
 use Rattle.charts.specs.declared.Signal.{Signal}
-use Rattle.charts.specs.declared.Signal.the-variants.{Start, End, Prefix, Gap, Dhead, Dest, Header, Data, Ack}
+use Rattle.charts.specs.declared.Signal.the-variants.{Gap}
 use Rattle.charts.specs.declared.Report.{Report}
 use Rattle.charts.specs.declared.Packet.{Packet}
 use Rattle.charts.specs.declared.Phase.{Phase}
@@ -26,13 +26,12 @@ use Rattle.charts.specs.Modes.{placeOf, isAnswering, isHolding}
 use Rattle.charts.specs.Signals as S
 use Rattle.charts.specs.Signals.{kindOf, isEnd}
 use Rattle.charts.specs.Reception.{hears}
-use Rattle.charts.specs.Arrivals.{passed}
 use Rattle.charts.specs.State.{State, pendings, holders, upd, some, others, lowest, every, moved, cleared}
 use Rattle.charts.specs.Actions.{does, firstOther, nextOther, putsOut, freed, afterFree, onward, granted, afterGrant, takesGap, afterGap}
 use Rattle.charts.specs.Demand.{forward}
 use Rattle.charts.proofs.Tools.{never, clash, implies, implied, and-true, neither, or-true, pick-by, at-upd, at-upd≢, upd-same, upd-other, upd-map, none-of, some-at, some-agree, others-off, lowest-of, lowest-lt, table-at, mem, everyIn, mem-sub, mem-two}
 use Rattle.charts.proofs.Places.{law, law-mode, owing, active, owes, acts, gap-owes, stepIn, stepOf, place-lt, sendingAt, ackingAt}
-use Rattle.charts.proofs.Ways.{Puts, start, dhead, dest, header, datum, end-all, end-one, filler, ack-start, ack-body, ack-hold, ack-end, holds-on, Arrives, passes, redirects, bad-header, bad-data, bad-ack, Effect, waits, replies, wins, loses, gives, puts, frees, arrives, drops, grants, grants-none, gaps, resets}
+use Rattle.charts.proofs.Ways.{passed-by, Puts, start, dhead, dest, header, datum, end-all, end-one, filler, ack-start, ack-body, ack-hold, ack-end, holds-on, Arrives, passes, redirects, bad-header, bad-data, bad-ack, Effect, waits, replies, wins, loses, gives, puts, frees, arrives, drops, grants, grants-none, gaps, resets}
 use Rattle.charts.proofs.Steps.{cleared-n}
 use Rattle.charts.proofs.Stages.{rowAt, Turn, turnAt, packetRead, quiet, waiting, ended, grantSteps, clearSteps, acting, Delivery, Talk, BusyAt, talks, clears, GrantingAt, GappingAt, Stage, weigh, weights, total, left, bonus, rowRank, turnRank, clearRank, busyRank, rank, heard-lands, lost-lands}
 use Rattle.charts.proofs.Reach.{Marks, Reach, low-places, low-place, step-place, passive-steps, is-talker, turn-fact, no-turn, sole-quiet}
@@ -400,17 +399,6 @@ module _ (s : State) (w : ℕ) (g : Signal) (j : ℕ) (a : Delivery (s .n) (s .c
       let l = ltb-false (nextOther w j) (s .n) e in
       pick-by (λ p. Goes true was p (s .n) cells) (isEnd g) _ _ (λ z. ends-it l z _ (some-agree (pendings cells) (upd (pendings (s .cell)) j (c .pending)) (s .n) (λ k l. upd-map (λ c. c .pending) (s .cell) j c k))) (frees-it l)
 
-passed-kind : (b : Bool) (g : Signal) → kindOf (passed b g) ≡ kindOf g
-passed-kind b Start = refl
-passed-kind b End = refl
-passed-kind b Prefix = refl
-passed-kind b Gap = refl
-passed-kind b Dhead = refl
-passed-kind b (Dest a) = refl
-passed-kind b (Header h c) = refl
-passed-kind b (Data d c) = refl
-passed-kind b (Ack a c) = refl
-
 -- A HOLDER GOES ON. Node i goes from step c, which is also its place, to step c′ at place e, and the bus stays: what the tables have to say for that
 record Shift (c c′ e : ℕ) : Type 0 where
   no-rest : c ≢ P.rest
@@ -747,7 +735,7 @@ module _ (s : State) (v : Reach s) where
 
   -- what arrives is of the same kind as what was put out
   same-kind : (b : Bool) (y : Way) (g t : Signal) (c : Bool) → Arrives b y g t c → kindOf t ≡ kindOf g
-  same-kind b y g t c passes = passed-kind b g
+  same-kind b y g t c passes = passed-by (λ x. kindOf x ≡ kindOf g) b g refl (λ h c d e. ap kindOf (sym e))
   same-kind b y g t c (redirects e) = refl
   same-kind b y g t c bad-header = refl
   same-kind b y g t c bad-data = refl

@@ -29,6 +29,10 @@ pub record Reach (s : State) : Type 0 where
 pub start : (n : ℕ) → 2 ≤ n → Reach (fresh n)
 start n h = record { two = h; marks = λ k. (refl, refl); stage = λ k l. refl }
 
+-- the places of a node that was told of a packet and answers
+abbrev pub answerers : List ℕ
+answerers = P.told ∷ P.answering ∷ P.acking ∷ []
+
 -- steps and places: a step below 30 is the place; a place that does not act is the step
 place-of-step : (p k : ℕ) → stepAt p k < 30 → p ≡ stepAt p k
 place-of-step p k =

@@ -76,6 +76,11 @@ pub pick-by : {A : Type 0} (P : A → Type 0) (b : Bool) (x y : A) → (b ≡ tr
 pick-by P true x y p q = p refl
 pick-by P false x y p q = q refl
 
+-- a fact by cases of a test
+pub by-test : {A : Type 0} (b : Bool) → (b ≡ true → A) → (b ≡ false → A) → A
+by-test true f g = f refl
+by-test false f g = g refl
+
 -- a function with another value at i
 pub at-upd : {A : Type 0} (P : ℕ → A → Type 0) (f : ℕ → A) (i : ℕ) (a : A) (k : ℕ) → P i a → P k (f k) → P k (upd f i a k)
 at-upd {A} P f i a k t u = go (eqb k i) refl

@@ -1,7 +1,7 @@
 -- Number 12: a fresh bus is valid, every step keeps a state valid, so 12 never shows in a run from a fresh bus. And n never changes.
 use mathlib.Core.Path.{_≡_, refl, sym, ap, subst, _∙_}
 use mathlib.Core.Logic.{_≢_, ⊎-elim}
-use mathlib.Core.Bool.{Bool, true, false, _&&_, not}
+use mathlib.Core.Bool.{Bool, true, _&&_, not}
 use mathlib.Core.List.{List, [], _∷_, List·Memᴰ, List·Memᴰ·cases-cons, List·Memᴰ·not-nil}
 use Prim.Native.Nat.{ℕ, suc, _<_, _≤_}
 use native.Mathlib.Omega.{arith}
@@ -25,7 +25,6 @@ use Rattle.charts.specs.declared.Clears.the-variants as C
 use Rattle.charts.specs.declared.Move.{Move}
 use Rattle.charts.specs.declared.Move.the-variants.{Carry}
 use Rattle.charts.specs.declared.Way.{Way}
-use Rattle.charts.specs.Arrivals.{passed}
 use Rattle.charts.specs.declared.Action.{Action}
 use Rattle.charts.specs.declared.Decoded.{Decoded}
 use Rattle.charts.specs.declared.Decoded.the-variants.{Refused, Accepted}
@@ -40,16 +39,11 @@ use Rattle.charts.specs.Actions.{Outcome, closed, does, firstOther, next
 use Rattle.charts.specs.Records.{isKind, clean, namesNode, namesAddress, isAddress, read}
 use Rattle.charts.specs.Valid.{isSize, isAck, modeFits, bufferFits, cellFits, signalFits, phaseFits, valid}
 use Rattle.charts.specs.Step.{Result, Event, carryOut, comesTo, about, play, look, stepWith, step, begin, after, results}
-use Rattle.charts.proofs.Tools.{implies, implied, and-true, both, pick, pick-by, at-upd, every-all, table-at, mem}
+use Rattle.charts.proofs.Tools.{implies, implied, and-true, both, pick, pick-by, at-upd, every-all, table-at, mem, by-test}
 use Rattle.charts.proofs.Places.{stepIn, ackIn, holdIn, headIn, datumIn, modes, mode-is, mode-at, place-lt, law}
 use Rattle.charts.proofs.Ways.{Puts, Arrives, Effect}
 use Rattle.charts.proofs.Ways as W
 use Rattle.charts.proofs.Steps.{Known, Valid, Stepped, refused, acts, stepped}
-
--- a fact by cases of a test
-by-test : {A : Type 0} (b : Bool) → (b ≡ true → A) → (b ≡ false → A) → A
-by-test true f g = f refl
-by-test false f g = g refl
 
 -- the parts of 12, and `valid` from them
 pub valid-is : (s : State) → Valid s → valid s ≡ true
@@ -144,19 +138,8 @@ puts-fit n (W.ack-end l) f a = (refl, refl)
 puts-fit n W.holds-on f a = (refl, refl)
 
 -- what arrives of a signal that fits, fits
-passed-fits : (n : ℕ) (misled : Bool) (g : Signal) → signalFits n g ≡ true → signalFits n (passed misled g) ≡ true
-passed-fits n misled Start f = f
-passed-fits n misled End f = f
-passed-fits n misled Prefix f = f
-passed-fits n misled Gap f = f
-passed-fits n misled Dhead f = f
-passed-fits n misled (Dest a) f = f
-passed-fits n misled (Header h c) f = f
-passed-fits n misled (Data d c) f = f
-passed-fits n misled (Ack a c) f = f
-
 arrives-fit : (n : ℕ) {misled : Bool} {v : Way} {g t : Signal} {b : Bool} → Arrives misled v g t b → Known n (Carry v) → signalFits n g ≡ true → signalFits n t ≡ true
-arrives-fit n {misled = misled} {g = g} W.passes k f = passed-fits n misled g f
+arrives-fit n {misled = misled} {g = g} W.passes k f = W.passed-by (λ x. signalFits n x ≡ true) misled g f (λ h c d e. refl)
 arrives-fit n (W.redirects e) k f = k
 arrives-fit n W.bad-header k f = refl
 arrives-fit n W.bad-data k f = refl

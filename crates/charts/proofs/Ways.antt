@@ -56,6 +56,18 @@ pub data Puts (i : ℕ) (p : Packet) : Mode → Signal → Mode → Report → T
   ack-end : {k a : ℕ} → 2 ≤ k → Puts i p (Acking k a false) End Rest R.Silent
   holds-on : Puts i p Holding Prefix Holding R.Silent
 
+-- a fact about a signal that holds of a Header with any check holds of what a pass makes of it
+pub passed-by : (P : Signal → Type 0) (misled : Bool) (g : Signal) → P g → ((h : Head) (c d : Bool) → g ≡ Header h c → P (Header h d)) → P (passed misled g)
+passed-by P w Start x f = x
+passed-by P w End x f = x
+passed-by P w Prefix x f = x
+passed-by P w Gap x f = x
+passed-by P w Dhead x f = x
+passed-by P w (Dest a) x f = x
+passed-by P w (Header h c) x f = f h c (c && not w) refl
+passed-by P w (Data d c) x f = x
+passed-by P w (Ack a c) x f = x
+
 -- how a signal arrives at a node with its misled mark, by which way, and whether that misleads it
 pub data Arrives (misled : Bool) : Way → Signal → Signal → Bool → Type 0 where
   passes : {g : Signal} → Arrives misled Pass g (passed misled g) false

@@ -1,0 +1,42 @@
+-- The words of the reports, numbered so that those that tell come last.
+use Prim.Native.Nat.{ℕ}
+use Rattle.charts.specs.declared.Report.{Report}
+use Rattle.charts.specs.declared.Report.the-variants.{Silent, Won, Lost, Sent, Acked, Miss, Good, Dcrc, Broad}
+
+abbrev pub silent : ℕ
+silent = 0
+
+abbrev pub won : ℕ
+won = 1
+
+abbrev pub lost : ℕ
+lost = 2
+
+abbrev pub sent : ℕ
+sent = 3
+
+abbrev pub acked : ℕ
+acked = 4
+
+abbrev pub miss : ℕ
+miss = 5
+
+abbrev pub good : ℕ
+good = 6
+
+abbrev pub dcrc : ℕ
+dcrc = 7
+
+abbrev pub broad : ℕ
+broad = 8
+
+abbrev pub wordOf : Report → ℕ
+wordOf Silent = silent
+wordOf (Won i) = won
+wordOf (Lost i) = lost
+wordOf (Sent i) = sent
+wordOf (Acked i a) = acked
+wordOf (Miss i) = miss
+wordOf (Good i h d) = good
+wordOf (Dcrc i h) = dcrc
+wordOf (Broad i h d) = broad
