@@ -29,10 +29,10 @@ use Rattle.charts.specs.declared.Buffer.the-variants.{Empty, Full}
 use Rattle.charts.specs.Modes as P
 use Rattle.charts.specs.Modes.{placeOf, isTold, isOwed}
 use Rattle.charts.specs.Signals as S
-use Rattle.charts.specs.Signals.{everybody, classOf, kindOf, closes, ackOf, isStart, isEnd}
+use Rattle.charts.specs.Signals.{everybody, classOf, kindOf, closes, ackOf, isEnd}
 use Rattle.charts.specs.Reception.{answer, hears}
-use Rattle.charts.specs.State.{State, setMode, setHolder, upd, every, some, others, pendings, holders, moved, cleared, fresh}
-use Rattle.charts.specs.Actions.{does, firstOther, nextOther, onward, hearing, granted}
+use Rattle.charts.specs.State.{State, setMode, upd, every, some, others, pendings, holders, moved, cleared, fresh}
+use Rattle.charts.specs.Actions.{does, firstOther, nextOther, onward, hearing, granted, putsOut, clearedBy, answers}
 use Rattle.charts.specs.Step.{accepted}
 use Rattle.charts.specs.Demand as Demand
 use Rattle.charts.specs.Demand.{Note, told, gave, Run, none, run, Book, newBook, asks, confirms, note, notes, nodeOf, moves, reports, enters, Acknowledged, Honest, AllHonest}
@@ -504,10 +504,10 @@ module _ (s : State) (bk : ℕ → Book) (v : Heed s bk) (p : Packet) (ca : Carr
 
   -- node i puts out a signal
   abbrev Out : Signal → Mode → State
-  Out g m = moved s (Delivering i g (firstOther i)) i (setMode m (setHolder (not (isEnd g)) (s .cell i)))
+  Out g m = moved s (Delivering i g (firstOther i)) i (putsOut g m (s .cell i))
 
   out-acks : (g : Signal) (m : Mode) → (isAck g ≡ true → voice m ≡ given (ackOf g)) → AckAt (Delivering i g (firstOther i)) (λ k. Out g m .cell k .mode)
-  out-acks g m f e = ap (λ (x : Cell). voice (x .mode)) (upd-same (s .cell) i (setMode m (setHolder (not (isEnd g)) (s .cell i)))) ∙ f e
+  out-acks g m f e = ap (λ (x : Cell). voice (x .mode)) (upd-same (s .cell) i (putsOut g m (s .cell i))) ∙ f e
 
   -- as a requester a node in place p was so in place q, too, and has not heard a good Ack
   abbrev follows : ℕ → ℕ → Bool
@@ -531,7 +531,7 @@ module _ (s : State) (bk : ℕ → Book) (v : Heed s bk) (p : Packet) (ca : Carr
       (own-follows m e f) (out-acks g m (λ z. clash _ z n)) (v .honest)
 
   puts-heed : {m₀ m : Mode} {g : Signal} {r : Report} → BusyAt (s .n) (s .cell) → s .cell i .mode ≡ m₀ → Puts i (s .cell i .sending) m₀ g m r →
-      Heed (cleared (cond (isStart g) C.Misled C.Nothing) (Out g m)) (λ k. reports (eqb k (nodeOf r)) r (bk k))
+      Heed (cleared (clearedBy g) (Out g m)) (λ k. reports (eqb k (nodeOf r)) r (bk k))
   puts-heed t e start = cleared-heed C.Misled _ bk (on start e refl refl (λ z. never z))
   puts-heed t e dhead = on dhead e refl refl (λ z. never z)
   puts-heed t e dest = on dest e refl refl (λ z. never z)
@@ -610,7 +610,7 @@ module _ (s : State) (bk : ℕ → Book) (v : Heed s bk) (p : Packet) (ca : Carr
       (λ k o. ap (λ b. reports b (Won i) (bk k) .running) (ne-eqb k i o)) (λ k kl o. ap (λ c. mem c past) (at-stage z k kl)) tt (λ k. wins-confirmed (eqb k i) i (bk k) _ refl)
   heeds loses = stays (s .phase) (acks-stay (s .cell i) refl)
   heeds (gives {a = a} {h = h} e) =
-      noted s bk v (s .phase) i (setMode (Acking 0 a h) (s .cell i)) _ (gave i a) l (λ k. refl) (λ z. let y : _≡_ {A = ℕ} 0 1 = cc in omega arith)
+      noted s bk v (s .phase) i (answers a h (s .cell i)) _ (gave i a) l (λ k. refl) (λ z. let y : _≡_ {A = ℕ} 0 1 = cc in omega arith)
       (others-mute p s ca i (answers-to (ap (λ m. mem (placeOf m) answerers) e) (ca .all i l))) (none-acked e (s .phase) (re .stage))
       (λ k kl o u. given-run a (bk k .running) (subst (λ x. Running (Agrees i x) (bk k .running)) (ap voice e) (v .agrees k i kl l u)))
       (same-acks s bk v (s .phase) i _ (λ b z. let q : heard ≡ given b = sym (ap voice e) ∙ z in let y : _≡_ {A = ℕ} 0 1 = cc in absurd (omega arith)) (v .carried)) (v .honest)

@@ -2,7 +2,7 @@
 -- So at most one node is told of it and answers.
 use mathlib.Core.Path.{_≡_, refl, sym, ap, subst, _∙_}
 use mathlib.Core.Logic.{_≢_}
-use mathlib.Core.Bool.{Bool, true, false, cond, _&&_, _||_, not}
+use mathlib.Core.Bool.{Bool, true, false, _&&_, _||_, not}
 use mathlib.Core.List.{List, [], _∷_}
 use Prim.Native.Nat.{ℕ, suc, _<_}
 use native.Mathlib.Omega.{arith}
@@ -25,16 +25,15 @@ use Rattle.charts.specs.declared.Cell.{Cell}
 use Rattle.charts.specs.declared.Heard.{Heard}
 use Rattle.charts.specs.declared.Way.{Way}
 use Rattle.charts.specs.declared.Clears.{Clears}
-use Rattle.charts.specs.declared.Clears.the-variants as C
 use Rattle.charts.specs.declared.Move.{Move}
 use Rattle.charts.specs.Modes as P
 use Rattle.charts.specs.Modes.{placeOf, isTold, isOwed}
 use Rattle.charts.specs.Signals as S
-use Rattle.charts.specs.Signals.{everybody, classOf, kindOf, closes, headOf, datumOf, ackOf, isStart, isEnd}
+use Rattle.charts.specs.Signals.{everybody, classOf, kindOf, closes, headOf, datumOf, ackOf, isEnd}
 use Rattle.charts.specs.Reception.{hears, falls}
 use Rattle.charts.specs.Arrivals.{passed}
-use Rattle.charts.specs.State.{State, setMode, setHolder, every, some, others, pendings, holders, moved, cleared, fresh}
-use Rattle.charts.specs.Actions.{does, firstOther, nextOther, onward, granted}
+use Rattle.charts.specs.State.{State, every, some, others, pendings, holders, moved, cleared, fresh}
+use Rattle.charts.specs.Actions.{does, firstOther, nextOther, onward, granted, putsOut, clearedBy}
 use Rattle.charts.proofs.Tools.{never, clash, implies, implied, and-true, or-false, or-no, or-yes, pick, pick-by, at-upd, at-upd≢, mem, everyIn, mem-sub, by-test}
 use Rattle.charts.proofs.Words as W
 use Rattle.charts.proofs.Words.{wordOf}
@@ -310,18 +309,18 @@ module _ (p : Packet) (s : State) (v : Carry p s) (re : Reach s) (i : ℕ) (l : 
 
   -- node i puts out a signal of p; where that is a Start, no other node remembers p
   abbrev Out : Signal → Mode → State
-  Out g m = moved s (Delivering i g (firstOther i)) i (setMode m (setHolder (not (isEnd g)) (s .cell i)))
+  Out g m = moved s (Delivering i g (firstOther i)) i (putsOut g m (s .cell i))
 
   on : {g : Signal} {m : Mode} {r : Report} → Says p false g → ltb (wordOf r) W.good ≡ true → Bears p i (s .cell i .misled) m → (sends (placeOf m) ≡ true → s .cell i .sending ≡ p) → Carries p r (Out g m)
   on z t a b = record { packet = p; carry = changes p s v _ i _ z a b; tells = told-none t }
 
-  opens : {m : Mode} → ((w : Bool) → Bears p i w m) → (sends (placeOf m) ≡ true → s .cell i .sending ≡ p) → OthersIn blank (s .n) (s .cell) i → Carries p Silent (cleared C.Misled (Out Start m))
+  opens : {m : Mode} → ((w : Bool) → Bears p i w m) → (sends (placeOf m) ≡ true → s .cell i .sending ≡ p) → OthersIn blank (s .n) (s .cell) i → Carries p Silent (cleared (clearedBy Start) (Out Start m))
   opens {m} a b f = record {
     packet = p;
     carry = record {
-      all = λ k h. at-upd≢ (λ k x. k < s .n → (w : Bool) → Bears p k w (x .mode)) (s .cell) i (setMode m (setHolder true (s .cell i))) k (λ l. a) (λ o l w. nothing (f k l o)) h _;
+      all = λ k h. at-upd≢ (λ k x. k < s .n → (w : Bool) → Bears p k w (x .mode)) (s .cell) i (putsOut Start m (s .cell i)) k (λ l. a) (λ o l w. nothing (f k l o)) h _;
       signal = tt;
-      own = changes p s v (Delivering i Start (firstOther i)) i (setMode m (setHolder true (s .cell i))) tt (a _) b .own;
+      own = changes p s v (Delivering i Start (firstOther i)) i (putsOut Start m (s .cell i)) tt (a _) b .own;
     };
     tells = told-none refl;
   }
@@ -338,7 +337,7 @@ module _ (p : Packet) (s : State) (v : Carry p s) (re : Reach s) (i : ℕ) (l : 
   first-acked (clears a y) c b e only k h q = mem-sub quiet blank refl (placeOf (s .cell k .mode)) (sole-quiet s (re .marks) a i only k h q)
 
   puts-out : {m₀ m : Mode} {g : Signal} {r : Report} → BusyAt (s .n) (s .cell) → others (holders (s .cell)) i (s .n) ≡ false → s .cell i .mode ≡ m₀ → Puts i (s .cell i .sending) m₀ g m r →
-      Carries p r (cleared (cond (isStart g) C.Misled C.Nothing) (Out g m))
+      Carries p r (cleared (clearedBy g) (Out g m))
   puts-out a o e x = go e x
     where
       mine : {k : ℕ} → s .cell i .mode ≡ Sending k → s .cell i .sending ≡ p
@@ -347,7 +346,7 @@ module _ (p : Packet) (s : State) (v : Carry p s) (re : Reach s) (i : ℕ) (l : 
       for-me : {m : Mode} → mem (placeOf m) answerers ≡ true → s .cell i .mode ≡ m → p .to ≡ i
       for-me t e = answers-to (ap (λ m. mem (placeOf m) answerers) e ∙ t) (v .all i l)
 
-      go : {m₀ m : Mode} {g : Signal} {r : Report} → s .cell i .mode ≡ m₀ → Puts i (s .cell i .sending) m₀ g m r → Carries p r (cleared (cond (isStart g) C.Misled C.Nothing) (Out g m))
+      go : {m₀ m : Mode} {g : Signal} {r : Report} → s .cell i .mode ≡ m₀ → Puts i (s .cell i .sending) m₀ g m r → Carries p r (cleared (clearedBy g) (Out g m))
       go e start = opens (λ w. nothing refl) (λ z. mine e) (first-sent a e)
       go e dhead = on tt refl (nothing refl) (λ z. mine e)
       go e dest = on (λ z. ap (λ q. q .to) (mine e)) refl (nothing refl) (λ z. mine e)

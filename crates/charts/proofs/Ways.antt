@@ -64,7 +64,7 @@ passed-by P w Prefix x f = x
 passed-by P w Gap x f = x
 passed-by P w Dhead x f = x
 passed-by P w (Dest a) x f = x
-passed-by P w (Header h c) x f = f h c (c && not w) refl
+passed-by P w (Header h c) x f = f h c _ refl
 passed-by P w (Data d c) x f = x
 passed-by P w (Ack a c) x f = x
 
