@@ -532,7 +532,7 @@ module _ (s : State) (bk : ℕ → Book) (v : Heed s bk) (p : Packet) (ca : Carr
 
   puts-heed : {m₀ m : Mode} {g : Signal} {r : Report} → BusyAt (s .n) (s .cell) → s .cell i .mode ≡ m₀ → Puts i (s .cell i .sending) m₀ g m r →
       Heed (cleared (clearedBy g) (Out g m)) (λ k. reports (eqb k (nodeOf r)) r (bk k))
-  puts-heed t e start = cleared-heed C.Misled _ bk (on start e refl refl (λ z. never z))
+  puts-heed t e start = cleared-heed (clearedBy Start) _ bk (on start e refl refl (λ z. never z))
   puts-heed t e dhead = on dhead e refl refl (λ z. never z)
   puts-heed t e dest = on dest e refl refl (λ z. never z)
   puts-heed t e header = on header e refl refl (λ z. never z)
@@ -541,7 +541,7 @@ module _ (s : State) (bk : ℕ → Book) (v : Heed s bk) (p : Packet) (ca : Carr
       confirmed s bk v _ i _ (Sent i) (λ b x. reports b (Sent i) x) (λ b. refl) (λ b. refl) (sym (ap voice e)) refl (run-all _ (bk i .running) (λ p l. tt)) (out-acks End Rest (λ z. never z))
   puts-heed t e (end-one h q) = on (end-one h q) e refl refl (λ z. never z)
   puts-heed t e filler = on filler e refl refl (λ z. never z)
-  puts-heed t e ack-start = cleared-heed C.Misled _ bk (on ack-start e refl refl (λ z. never z))
+  puts-heed t e ack-start = cleared-heed (clearedBy Start) _ bk (on ack-start e refl refl (λ z. never z))
   puts-heed t e ack-body = on ack-body e refl refl (λ z. refl)
   puts-heed t e (ack-hold h) = last (ack-hold h) t e h refl refl refl
   puts-heed t e (ack-end h) = last (ack-end h) t e h refl refl refl
