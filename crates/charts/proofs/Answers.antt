@@ -11,7 +11,7 @@ use Rattle.charts.specs.declared.Seen.the-variants as Sn
 use Rattle.charts.specs.declared.Mode.{Mode}
 use Rattle.charts.specs.declared.Mode.the-variants.{Rest, AckBody, AckEnd, Sending, Answering, Acking, Spurious}
 use Rattle.charts.specs.declared.Signal.{Signal}
-use Rattle.charts.specs.declared.Signal.the-variants.{End, Gap, Ack}
+use Rattle.charts.specs.declared.Signal.the-variants.{Start, End, Gap, Ack}
 use Rattle.charts.specs.declared.Report.{Report}
 use Rattle.charts.specs.declared.Report.the-variants.{Silent, Won, Sent, Acked, Miss, Good, Dcrc, Broad}
 use Rattle.charts.specs.declared.Packet.{Packet}
