@@ -1,0 +1,71 @@
+use borrow.Author.Needs.{needs}
+use Rattle.charts.specs.Records.{read}
+use Rattle.record.proofs.decode.Statement.{statement}
+use Rattle.record.proofs.decode.Tie as tie
+
+is-kind-requires : tie.Need-is-kind-requires
+is-kind-requires c κs = search needs
+
+returns : tie.Need-returns
+unfolding read
+returns c = simp (← c .before .is-kind .ensures, c .if1 .taken)
+
+is-clean-requires : tie.Need-is-clean-requires
+is-clean-requires c κs = search needs
+
+returns-2 : tie.Need-returns-2
+unfolding read
+returns-2 c = simp (← c .before .before .before .is-kind .ensures, c .before .before .if1 .left, ← c .before .is-clean .ensures, c .if2 .taken)
+
+both-requires : tie.Need-both-requires
+both-requires c κs = search needs
+
+returns-3 : tie.Need-returns-3
+unfolding read
+returns-3 c = simp (← c .before .before .before .before .before .before .is-kind .ensures, c .before .before .before .before .before .if1 .left, ← c .before .before .before .before .is-clean .ensures, c .before .before .before .if2 .left, ← c .before .both .ensures, c .if3 .taken)
+
+names-address-requires : tie.Need-names-address-requires
+names-address-requires c κs = search needs
+
+is-address-requires : tie.Need-is-address-requires
+is-address-requires c κs = search needs
+
+both-requires-2 : tie.Need-both-requires-2
+both-requires-2 c κs = search needs
+
+returns-4 : tie.Need-returns-4
+unfolding read
+returns-4 c = simp (← c .before .before .before .before .before .before .before .before .before .before .is-kind .ensures, c .before .before .before .before .before .before .before .before .before .if1 .left, ← c .before .before .before .before .before .before .before .before .is-clean .ensures, c .before .before .before .before .before .before .before .if2 .left, ← c .before .before .before .before .before .both .ensures, c .before .before .before .before .if3 .left, ← c .before .before .before .names-address .ensures, ← c .before .before .is-address .ensures, ← c .before .both2 .ensures, c .if4 .taken)
+
+both-requires-3 : tie.Need-both-requires-3
+both-requires-3 c κs = search needs
+
+returns-5 : tie.Need-returns-5
+unfolding read
+returns-5 c = simp (← c .before .before .before .before .before .before .before .before .before .before .before .before .before .before .is-kind .ensures, c .before .before .before .before .before .before .before .before .before .before .before .before .before .if1 .left, ← c .before .before .before .before .before .before .before .before .before .before .before .before .is-clean .ensures, c .before .before .before .before .before .before .before .before .before .before .before .if2 .left, ← c .before .before .before .before .before .before .before .before .before .both .ensures, c .before .before .before .before .before .before .before .before .if3 .left, ← c .before .before .before .before .before .before .before .names-address .ensures, ← c .before .before .before .before .before .before .is-address .ensures, ← c .before .before .before .before .before .both2 .ensures, c .before .before .before .before .if4 .left, ← c .before .both3 .ensures, c .if5 .taken)
+
+move-of-requires : tie.Need-move-of-requires
+move-of-requires c κs = search needs
+
+returns-6 : tie.Need-returns-6
+unfolding read
+returns-6 c = simp (← c .before .before .before .before .before .before .before .before .before .before .before .before .before .before .before .is-kind .ensures, c .before .before .before .before .before .before .before .before .before .before .before .before .before .before .if1 .left, ← c .before .before .before .before .before .before .before .before .before .before .before .before .before .is-clean .ensures, c .before .before .before .before .before .before .before .before .before .before .before .before .if2 .left, ← c .before .before .before .before .before .before .before .before .before .before .both .ensures, c .before .before .before .before .before .before .before .before .before .if3 .left, ← c .before .before .before .before .before .before .before .before .names-address .ensures, ← c .before .before .before .before .before .before .before .is-address .ensures, ← c .before .before .before .before .before .before .both2 .ensures, c .before .before .before .before .before .if4 .left, ← c .before .before .both3 .ensures, c .before .if5 .left, c .move-of .ensures)
+
+pub decode-spec : {M : Type 1} → statement M
+decode-spec =
+    tie.close
+    (tie.spec
+    is-kind-requires
+    returns
+    is-clean-requires
+    returns-2
+    both-requires
+    returns-3
+    names-address-requires
+    is-address-requires
+    both-requires-2
+    returns-4
+    both-requires-3
+    returns-5
+    move-of-requires
+    returns-6)

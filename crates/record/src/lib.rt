@@ -1,0 +1,243 @@
+// An action record: its 16 bytes ("Run files"), and what the numbers 2 to 6 make of it.
+ghost use mathlib.Core.Path.{_≡_};
+ghost use mathlib.Core.Bool.{true, cond, _&&_, _||_};
+ghost use mathlib.Core.List.{[], _∷_};
+ghost use Prim.Native.Nat.{_+_, _<_, _≤_};
+ghost use lib.ListN.{length};
+ghost use lib.Seq.{sets};
+ghost use Rattle.charts.specs.Records.{isKind, namesAddress, zeroUnless, clean, isAddress, moveOf, read};
+ghost use Rattle.record.specs.Bytes.{little, value, hasRoom, putAt};
+ghost use Rattle.record.specs.Layout.{bytesOf, actionAt};
+use charts::Action;
+use charts::Decoded;
+use charts::Head;
+use charts::Move;
+use charts::Packet;
+use charts::Way;
+
+const WRONG_KIND: u8 = 2;
+
+const STRAY_FIELD: u8 = 3;
+
+const WRONG_NODE: u8 = 4;
+
+const WRONG_ADDRESS: u8 = 5;
+
+const WRONG_ANSWER: u8 = 6;
+
+fn both(p: bool, q: bool) -> bool
+    ensures { λ r. ⌜ r ≡ (p && q) ⌝ }
+{
+    if p { q } else { false }
+}
+
+fn either(p: bool, q: bool) -> bool
+    ensures { λ r. ⌜ r ≡ (p || q) ⌝ }
+{
+    if p { true } else { q }
+}
+
+fn wide(x: u8) -> u32
+    ensures { λ r. ⌜ r ≡ x ⌝ }
+    ensures { λ r. ⌜ r < 256 ⌝ }
+{
+    x as u32
+}
+
+// "kind not 1–10" is 2.
+fn is_kind(kind: u8) -> bool
+    ensures { λ r. ⌜ r ≡ isKind kind ⌝ }
+{
+    both(0 < kind, kind < 11)
+}
+
+fn names_address(kind: u8) -> bool
+    ensures { λ r. ⌜ r ≡ namesAddress kind ⌝ }
+{
+    either(kind == 1, kind == 7)
+}
+
+fn zero_unless(named: bool, x: u32) -> bool
+    ensures { λ r. ⌜ r ≡ zeroUnless named x ⌝ }
+{
+    either(named, x == 0)
+}
+
+// Whether the fields that the kind doesn't name, and the record's three zeros, are 0; else it is 3.
+fn is_clean(a: Action) -> bool
+    ensures { λ r. ⌜ r ≡ clean a ⌝ }
+{
+    let kind = a.kind;
+    let node = zero_unless(kind < 5, wide(a.node));
+    let address = zero_unless(names_address(kind), wide(a.address));
+    let ack = zero_unless(kind == 3, wide(a.ack));
+    let hold = zero_unless(kind == 3, wide(a.hold));
+    let header = zero_unless(kind == 1, a.header);
+    let datum = zero_unless(kind == 1, a.datum);
+    let answer = both(ack, both(hold, both(header, datum)));
+    let fields = both(node, both(address, answer));
+    both(a.byte5 == 0, both(a.byte6 == 0, both(a.byte7 == 0, fields)))
+}
+
+fn is_address(n: u8, address: u8) -> bool
+    ensures { λ r. ⌜ r ≡ isAddress n address ⌝ }
+{
+    either(address < n, address == 63)
+}
+
+fn move_of(a: Action) -> Move
+    ensures { λ r. ⌜ r ≡ moveOf a ⌝ }
+{
+    let kind = a.kind;
+    match kind {
+        1 => Move::Request {
+            node: a.node,
+            packet: Packet {
+                to: a.address,
+                head: Head { header: a.header },
+                datum: a.datum,
+            },
+        },
+        2 => Move::Arbitrate(a.node),
+        3 => Move::Respond {
+            node: a.node,
+            ack: a.ack,
+            hold: a.hold == 1,
+        },
+        4 => Move::Clock(a.node),
+        5 => Move::Carry(Way::Pass),
+        6 => Move::Carry(Way::Lose),
+        7 => Move::Carry(Way::Change(a.address)),
+        8 => Move::Grant,
+        9 => Move::GapNext,
+        _ => Move::Reset,
+    }
+}
+
+// An action record looked at by 2 to 6, in that order.
+pub fn decode(n: u8, a: Action) -> Decoded
+    ensures { λ r. ⌜ r ≡ read n a ⌝ }
+{
+    let kind = a.kind;
+    if !is_kind(kind) {
+        return Decoded::Refused(WRONG_KIND);
+    }
+    if !is_clean(a) {
+        return Decoded::Refused(STRAY_FIELD);
+    }
+    if both(kind < 5, !(a.node < n)) {
+        return Decoded::Refused(WRONG_NODE);
+    }
+    if both(names_address(kind), !is_address(n, a.address)) {
+        return Decoded::Refused(WRONG_ADDRESS);
+    }
+    if !both(a.ack < 16, a.hold < 2) {
+        return Decoded::Refused(WRONG_ANSWER);
+    }
+    Decoded::Accepted(move_of(a))
+}
+
+// The number that four bytes are, the lowest first.
+pub fn number_of(a: u8, b: u8, c: u8, d: u8) -> u32
+    ensures { λ r. ⌜ r ≡ value (a ∷ b ∷ c ∷ d ∷ []) ⌝ }
+{
+    wide(a) + 256 * (wide(b) + 256 * (wide(c) + 256 * wide(d)))
+}
+
+// The record at the start of a part of a block. A part of less than 16 bytes holds none: the answer is then the record of zeros, which is refused by 2.
+pub fn read_action(part: &[u8]) -> Action
+    ensures { λ r. ⌜ r ≡ actionAt (now (part .entry)) ⌝ }
+{
+    if part.len() < 16 {
+        return Action {
+            kind: 0,
+            node: 0,
+            address: 0,
+            ack: 0,
+            hold: 0,
+            byte5: 0,
+            byte6: 0,
+            byte7: 0,
+            header: 0,
+            datum: 0,
+        };
+    }
+    Action {
+        kind: part[0],
+        node: part[1],
+        address: part[2],
+        ack: part[3],
+        hold: part[4],
+        byte5: part[5],
+        byte6: part[6],
+        byte7: part[7],
+        header: number_of(part[8], part[9], part[10], part[11]),
+        datum: number_of(part[12], part[13], part[14], part[15]),
+    }
+}
+
+// Whether `count` bytes have room in `size` bytes from place `at` on.
+pub fn has_room(size: usize, at: usize, count: usize) -> bool
+    ensures { λ r. ⌜ r ≡ hasRoom size at count ⌝ }
+    ensures { λ r. ⌜ (r ≡ true → at + count ≤ size) ⌝ }
+{
+    if size < count {
+        return false;
+    }
+    if size - count < at {
+        return false;
+    }
+    true
+}
+
+// Stores the lowest `width` bytes of a number at a place, the lowest first.
+fn store_little(out: &mut [u8], at: usize, width: usize, x: u32)
+    requires { ⌜ at + width ≤ length (now out) ⌝ }
+    ensures { λ _. ⌜ now (out .exit) ≡ sets (now (out .entry)) at (little width x) ⌝ }
+{
+    let mut rest = x;
+    let mut i: usize = 0;
+    while i < width {
+        out[at + i] = (rest % 256) as u8;
+        rest = rest / 256;
+        i += 1;
+    }
+}
+
+// Stores a record's 16 bytes at a place.
+fn store_action(out: &mut [u8], at: usize, a: Action)
+    requires { ⌜ at + 16 ≤ length (now out) ⌝ }
+    ensures { λ _. ⌜ now (out .exit) ≡ sets (now (out .entry)) at (bytesOf a) ⌝ }
+{
+    out[at] = a.kind;
+    out[at + 1] = a.node;
+    out[at + 2] = a.address;
+    out[at + 3] = a.ack;
+    out[at + 4] = a.hold;
+    out[at + 5] = a.byte5;
+    out[at + 6] = a.byte6;
+    out[at + 7] = a.byte7;
+    store_little(out, at + 8, 4, a.header);
+    store_little(out, at + 12, 4, a.datum);
+}
+
+// Writes the lowest `width` bytes of a number at a place, the lowest first; nothing where they have no room.
+pub fn put_little(out: &mut [u8], at: usize, width: usize, x: u32)
+    ensures { λ _. ⌜ now (out .exit) ≡ putAt (now (out .entry)) at (little width x) ⌝ }
+{
+    if has_room(out.len(), at, width) {
+        store_little(out, at, width, x);
+    }
+}
+
+// Writes a record's 16 bytes at a place and answers the place after them; where they have no room, it writes nothing and answers the place itself.
+pub fn write_action(out: &mut [u8], at: usize, a: Action) -> usize
+    ensures { λ r. ⌜ r ≡ cond (hasRoom (length (now (out .entry))) at 16) (at + 16) at ⌝ }
+    ensures { λ _. ⌜ now (out .exit) ≡ putAt (now (out .entry)) at (bytesOf a) ⌝ }
+{
+    if has_room(out.len(), at, 16) {
+        store_action(out, at, a);
+        return at + 16;
+    }
+    at
+}

@@ -1,0 +1,90 @@
+-- A turn and the end of each loop over a block's bytes. Assumes nothing.
+use mathlib.Core.Path.{_≡_, refl}
+use mathlib.Core.Bool.{Bool, true, false, _&&_}
+use mathlib.Core.List.{List, [], _∷_}
+use Prim.Native.Nat.{ℕ, suc, _+_, _*_, _-_, _/_, _%_, _<_, _≤_}
+use native.Mathlib.Omega.{arith}
+use native.Mathlib.Numerals.{add-one}
+use native.Mathlib.Nat.{mul-le-mul}
+use lib.Dec.{ltb}
+use lib.ListN.{length, take, drop, getD, set, length-drop, drop-of-length-le}
+use lib.Seq.{slice, slice-cons, length-take-le, drop-cons, drop-drop, take-all, sets}
+use borrow.Author.Tests.{ltb-true, eqb-true}
+use Rattle.record.specs.Layout.{actionAt, actionsOf}
+use Rattle.runfile.specs.Block.{zeros, isCount}
+use Rattle.runfile.specs.Write.{isRecords}
+
+-- the part of a list from a place to its end
+pub tail-part : (s : List ℕ) (k : ℕ) → take (length s - k) (drop k s) ≡ drop k s
+tail-part s k = take-all (length s - k) (drop k s) (simp length-drop (omega arith))
+
+-- bytes looked at from place i up to place t
+module _ (s : List ℕ) (i t : ℕ) (fits : t ≤ length s) where
+  pub slice-end : t ≤ i → slice i t s ≡ []
+  slice-end h =
+      let e : length (take t s) ≤ i = rw (length-take-le t s fits) h in
+      drop-of-length-le (take t s) e
+
+  pub slice-more : i < t → slice i t s ≡ getD s i 0 ∷ slice (i + 1) t s
+  slice-more h = rw (slice-cons i t s 0 h fits, add-one i)
+
+-- a byte times a place of a block
+pub term-small : (x i : ℕ) → x < 256 → i < 510 → x * (i + 1) ≤ 255 * 510
+term-small x i p q =
+    let a : x ≤ 255 = omega arith in
+    let b : i + 1 ≤ 510 = omega arith in
+    mul-le-mul a b
+
+-- so many records from record k on
+pub records-more : (s : List ℕ) (count k : ℕ) → k < count
+    → actionsOf (count - k) (drop (16 * k) s) ≡ actionAt (drop (16 * k) s) ∷ actionsOf (count - (k + 1)) (drop (16 * (k + 1)) s)
+records-more s count k h =
+    let w : count - k ≡ suc (count - (k + 1)) = omega arith in
+    let e : 16 * (k + 1) ≡ 16 * k + 16 = omega arith in
+    rw (w, e, drop-drop 16 (16 * k) s)
+
+pub records-none : (s : List ℕ) (count k : ℕ) → count ≤ k → actionsOf (count - k) (drop (16 * k) s) ≡ []
+records-none s count k h =
+    let w : count - k ≡ 0 = omega arith in
+    rw w
+
+-- bytes stored, and zeros stored, from place i on
+pub bytes-more : (out bytes : List ℕ) (at i : ℕ) → i < length bytes
+    → sets out (at + i) (drop i bytes) ≡ sets (set out (at + i) (getD bytes i 0)) (at + (i + 1)) (drop (i + 1) bytes)
+bytes-more out bytes at i h =
+    let e : at + (i + 1) ≡ suc (at + i) = omega arith in
+    rw (drop-cons bytes i 0 h, e, add-one i)
+
+pub bytes-none : (out bytes : List ℕ) (at i : ℕ) → length bytes ≤ i → sets out (at + i) (drop i bytes) ≡ out
+bytes-none out bytes at i h = rw (drop-of-length-le bytes h)
+
+pub zeros-more : (out : List ℕ) (i to : ℕ) → i < to → sets out i (zeros (to - i)) ≡ sets (set out i 0) (i + 1) (zeros (to - (i + 1)))
+zeros-more out i to h =
+    let w : to - i ≡ suc (to - (i + 1)) = omega arith in
+    rw (w, add-one i)
+
+pub zeros-none : (out : List ℕ) (i to : ℕ) → to ≤ i → sets out i (zeros (to - i)) ≡ out
+zeros-none out i to h =
+    let w : to - i ≡ 0 = omega arith in
+    rw w
+
+-- both of two tests
+pub and-left : (p q : Bool) → (p && q) ≡ true → p ≡ true
+and-left true q h = refl
+and-left false q h = h
+
+pub and-right : (p q : Bool) → (p && q) ≡ true → q ≡ true
+and-right true q h = h
+and-right false q h = cc
+
+-- a count is at most 31, and the bytes of so many records at most 496
+pub count-small : (count : ℕ) → isCount count ≡ true → count ≤ 31
+count-small count h =
+    let f = ltb-true count 32 (and-right (ltb 0 count) _ h) in
+    omega arith
+
+pub records-small : (size : ℕ) → isRecords size ≡ true → size ≤ 496
+records-small size h =
+    let f = count-small (size / 16) (and-left (isCount (size / 16)) _ h) in
+    let g = eqb-true (size % 16) 0 (and-right (isCount (size / 16)) _ h) in
+    omega arith

@@ -1,0 +1,64 @@
+-- A block of a run file as it is written.
+use mathlib.Core.Bool.{Bool, cond, _&&_, not}
+use mathlib.Core.List.{List, [], _∷_, _++_}
+use Prim.Native.Nat.{ℕ, _+_, _-_, _/_, _%_}
+use lib.Dec.{eqb}
+use lib.ListN.{length}
+use Rattle.charts.specs.Numbers as N
+use Rattle.charts.specs.Valid.{isSize}
+use Rattle.charts.specs.Records.{read}
+use Rattle.charts.specs.declared.Action.{Action}
+use Rattle.charts.specs.declared.Decoded.{Decoded}
+use Rattle.charts.specs.declared.Decoded.the-variants as D
+use Rattle.record.specs.Bytes.{little}
+use Rattle.record.specs.Layout.{actionsOf, recordsOf}
+use Rattle.runfile.specs.Block.{isCount, zeros, checkSum}
+
+-- this paper's number of a record that was looked at
+abbrev pub numberOf : Decoded → ℕ
+numberOf (D.Refused k) = k
+numberOf (D.Accepted m) = N.accepted
+
+-- "then 2 to 6 for each action": the first refusal, or 0
+abbrev pub refusedOr : Decoded → ℕ → ℕ
+refusedOr (D.Refused k) later = k
+refusedOr (D.Accepted m) later = later
+
+abbrev pub firstRefusal : ℕ → List Action → ℕ
+firstRefusal n [] = N.accepted
+firstRefusal n (a ∷ l) = refusedOr (read n a) (firstRefusal n l)
+
+-- the bytes of 1 to 31 action records
+abbrev pub isRecords : ℕ → Bool
+isRecords size = isCount (size / 16) && eqb (size % 16) 0
+
+-- "The writer looks at 8, 1, 11, then 2 to 6 for each action." Bytes that are no whole number of action records have no count, and are 11.
+unfoldable pub writeNumber : ℕ → ℕ → List ℕ → ℕ
+writeNumber size n records =
+    cond (not (eqb size 512)) N.wrong-length
+    (cond (not (isSize n)) N.wrong-size
+    (cond (not (isRecords (length records))) N.wrong-count
+    (firstRefusal n (actionsOf (length records / 16) records))))
+
+-- "Bytes 0–3 block number from 0; 4 count, 1–31; 5 n; 6–13 zero. The actions of a block start at byte 14"; "Bytes past the last action are 0": bytes 0 to 509
+abbrev pub headBytes : ℕ → ℕ → ℕ → List ℕ
+headBytes number count n = little 4 number ++ (count ∷ n ∷ zeros 8)
+
+unfoldable pub bodyOf : ℕ → ℕ → List ℕ → List ℕ
+bodyOf number n records = headBytes number (length records / 16) n ++ (records ++ zeros (496 - length records))
+
+-- "Bytes 510–511": the check, after bytes 0 to 509
+abbrev pub sealed : List ℕ → List ℕ
+sealed body = body ++ little 2 (checkSum body)
+
+-- the block with those action bytes
+unfoldable pub blockWith : ℕ → ℕ → List ℕ → List ℕ
+blockWith number n records = sealed (bodyOf number n records)
+
+-- the block of a list of 1 to 31 actions
+abbrev pub blockOf : ℕ → ℕ → List Action → List ℕ
+blockOf number n l = blockWith number n (recordsOf l)
+
+-- "A refused write leaves its buffer as it was": what the buffer holds after a write that answered that number
+abbrev pub written : ℕ → List ℕ → List ℕ → List ℕ
+written number old new = cond (eqb number N.accepted) new old

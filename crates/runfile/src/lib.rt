@@ -1,0 +1,268 @@
+// Run files: a block of 512 bytes read and written ("Run files", numbers 1, 8, 9 and 11).
+ghost use mathlib.Core.Path.{_≡_};
+ghost use mathlib.Core.Bool.{true, _&&_};
+ghost use Prim.Native.Nat.{_+_, _*_, _-_, _<_, _≤_};
+ghost use lib.ListN.{length};
+ghost use lib.Seq.{sets, slice};
+ghost use Rattle.charts.specs.Valid.{isSize};
+ghost use Rattle.runfile.specs.Block.{checkOf, isCount, zeros, allZero, countIn, headOf, headFits, countFits, readBlock, blockFits, usedBytes};
+ghost use Rattle.runfile.specs.Write.{numberOf, firstRefusal, writeNumber, bodyOf, blockWith, written};
+ghost use Rattle.record.specs.Layout.{actionsOf};
+use charts::Decoded;
+use record::decode;
+use record::number_of;
+use record::put_little;
+use record::read_action;
+
+const WRONG_SIZE: u8 = 1;
+
+const WRONG_LENGTH: u8 = 8;
+
+const WRONG_CHECK: u8 = 9;
+
+const WRONG_COUNT: u8 = 11;
+
+// What a reading of a block's head gives: "number, count and n, or the refusal".
+pub enum BlockHead {
+    Holds { number: u32, count: u8, n: u8 },
+    Refused(u8),
+}
+
+fn both(p: bool, q: bool) -> bool
+    ensures { λ r. ⌜ r ≡ (p && q) ⌝ }
+{
+    if p { q } else { false }
+}
+
+fn wide(x: u8) -> u32
+    ensures { λ r. ⌜ r ≡ x ⌝ }
+    ensures { λ r. ⌜ r < 256 ⌝ }
+{
+    x as u32
+}
+
+fn is_size(n: u8) -> bool
+    ensures { λ r. ⌜ r ≡ isSize n ⌝ }
+{
+    both(1 < n, n < 64)
+}
+
+fn is_count(count: usize) -> bool
+    ensures { λ r. ⌜ r ≡ isCount count ⌝ }
+{
+    both(0 < count, count < 32)
+}
+
+// The check of a block. The sum fits 32 bits, so the modulus is taken once.
+fn check_sum(block: &[u8]) -> u32
+    requires { ⌜ length (now block) ≡ 512 ⌝ }
+    ensures { λ r. ⌜ r ≡ checkOf (now (block .entry)) ⌝ }
+{
+    let mut sum: u32 = 0;
+    let mut i: u32 = 0;
+    while i < 510 {
+        sum += wide(block[i as usize]) * (i + 1);
+        i += 1;
+    }
+    sum % 65521
+}
+
+// Whether the bytes from one place up to another are 0.
+fn all_zero(block: &[u8], from: usize, to: usize) -> bool
+    requires { ⌜ to ≤ length (now block) ⌝ }
+    ensures { λ r. ⌜ r ≡ allZero (slice from to (now (block .entry))) ⌝ }
+{
+    let mut i = from;
+    while i < to {
+        if block[i] != 0 {
+            return false;
+        }
+        i += 1;
+    }
+    true
+}
+
+// The head of a block looked at by 8, 9 and 1. A file's block is then looked at by 10 and by `count_fits`.
+pub fn read_head(block: &[u8]) -> BlockHead
+    ensures { λ r. ⌜ r ≡ headOf (now (block .entry)) ⌝ }
+    ensures { λ r. ⌜ headFits (now (block .entry)) r ⌝ }
+{
+    if block.len() != 512 {
+        return BlockHead::Refused(WRONG_LENGTH);
+    }
+    let same = number_of(block[510], block[511], 0, 0) == check_sum(block);
+    let sized = is_size(block[5]);
+    if !same {
+        return BlockHead::Refused(WRONG_CHECK);
+    }
+    if !sized {
+        return BlockHead::Refused(WRONG_SIZE);
+    }
+    BlockHead::Holds {
+        number: number_of(block[0], block[1], block[2], block[3]),
+        count: block[4],
+        n: block[5],
+    }
+}
+
+// Whether 512 bytes are not refused by 11: the count, bytes 6 to 13 and every byte past the last action.
+pub fn count_fits(block: &[u8]) -> bool
+    ensures { λ r. ⌜ r ≡ countFits (now (block .entry)) ⌝ }
+    ensures { λ r. ⌜ (r ≡ true → countIn (now (block .entry)) ≤ 31) ⌝ }
+{
+    if block.len() != 512 {
+        return false;
+    }
+    let count = block[4] as usize;
+    if !is_count(count) {
+        return false;
+    }
+    if !all_zero(block, 6, 14) {
+        return false;
+    }
+    all_zero(block, 14 + 16 * count, 510)
+}
+
+// A single block read by itself: looked at by 8, 9, 1 and 11.
+pub fn read_block(block: &[u8]) -> BlockHead
+    ensures { λ r. ⌜ r ≡ readBlock (now (block .entry)) ⌝ }
+    ensures { λ r. ⌜ blockFits (now (block .entry)) r ⌝ }
+{
+    let head = read_head(block);
+    match head {
+        BlockHead::Refused(_) => head,
+        BlockHead::Holds {
+            number: _,
+            count: _,
+            n: _,
+        } => {
+            if count_fits(block) {
+                head
+            } else {
+                BlockHead::Refused(WRONG_COUNT)
+            }
+        }
+    }
+}
+
+// The used action bytes of the caller's own block: bytes 14 to 14 + 16 × count, and none of a refused block.
+pub fn action_bytes(block: &[u8]) -> &[u8]
+    ensures { λ r. ⌜ now r ≡ usedBytes (now (block .entry)) ⌝ }
+{
+    let BlockHead::Holds {
+        number: _,
+        count,
+        n: _,
+    } = read_block(block)
+    else {
+        return &block[..0];
+    };
+    let end = 14 + 16 * (count as usize);
+    &block[14..end]
+}
+
+fn number(d: Decoded) -> u8
+    ensures { λ r. ⌜ r ≡ numberOf d ⌝ }
+{
+    match d {
+        Decoded::Refused(k) => k,
+        Decoded::Accepted(_) => 0,
+    }
+}
+
+// The first refusal, by 2 to 6, of so many action records in order; or 0.
+fn first_refusal(n: u8, records: &[u8], count: usize) -> u8
+    requires { ⌜ 16 * count ≤ length (now records) ⌝ }
+    ensures { λ r. ⌜ r ≡ firstRefusal n (actionsOf count (now (records .entry))) ⌝ }
+{
+    let mut k: usize = 0;
+    while k < count {
+        let at = 16 * k;
+        let d = decode(n, read_action(&records[at..]));
+        let Decoded::Accepted(_) = d else {
+            return number(d);
+        };
+        k += 1;
+    }
+    0
+}
+
+// What the writer answers: it looks at 8, 1, 11, then 2 to 6 for each action.
+fn write_number(size: usize, n: u8, records: &[u8]) -> u8
+    ensures { λ r. ⌜ r ≡ writeNumber size n (now (records .entry)) ⌝ }
+    ensures { λ r. ⌜ (r ≡ 0 → (size ≡ 512) × (length (now (records .entry)) ≤ 496)) ⌝ }
+{
+    if size != 512 {
+        return WRONG_LENGTH;
+    }
+    if !is_size(n) {
+        return WRONG_SIZE;
+    }
+    let count = records.len() / 16;
+    if !both(is_count(count), records.len() % 16 == 0) {
+        return WRONG_COUNT;
+    }
+    first_refusal(n, records, count)
+}
+
+// Stores zeros from one place up to another.
+fn store_zeros(out: &mut [u8], from: usize, to: usize)
+    requires { ⌜ from ≤ to ⌝ }
+    requires { ⌜ to ≤ length (now out) ⌝ }
+    ensures { λ _. ⌜ now (out .exit) ≡ sets (now (out .entry)) from (zeros (to - from)) ⌝ }
+{
+    let mut i = from;
+    while i < to {
+        out[i] = 0;
+        i += 1;
+    }
+}
+
+// Stores bytes at a place.
+fn store_bytes(out: &mut [u8], at: usize, bytes: &[u8])
+    requires { ⌜ at + length (now bytes) ≤ length (now out) ⌝ }
+    ensures { λ _. ⌜ now (out .exit) ≡ sets (now (out .entry)) at (now (bytes .entry)) ⌝ }
+{
+    let mut i: usize = 0;
+    while i < bytes.len() {
+        out[at + i] = bytes[i];
+        i += 1;
+    }
+}
+
+// Stores the first 510 bytes of a block.
+fn store_body(out: &mut [u8], number: u32, n: u8, records: &[u8])
+    requires { ⌜ length (now out) ≡ 512 ⌝ }
+    requires { ⌜ length (now records) ≤ 496 ⌝ }
+    ensures { λ _. ⌜ now (out .exit) ≡ sets (now (out .entry)) 0 (bodyOf number n (now (records .entry))) ⌝ }
+{
+    put_little(out, 0, 4, number);
+    out[4] = (records.len() / 16) as u8;
+    out[5] = n;
+    store_zeros(out, 6, 14);
+    store_bytes(out, 14, records);
+    store_zeros(out, 14 + records.len(), 510);
+}
+
+// Stores a block.
+fn store_block(out: &mut [u8], number: u32, n: u8, records: &[u8])
+    requires { ⌜ length (now out) ≡ 512 ⌝ }
+    requires { ⌜ length (now records) ≤ 496 ⌝ }
+    ensures { λ _. ⌜ now (out .exit) ≡ blockWith number n (now (records .entry)) ⌝ }
+{
+    store_body(out, number, n, records);
+    let sum = check_sum(out);
+    put_little(out, 510, 2, sum);
+}
+
+// Writes a block of the action records whose bytes are given, and answers 0; or answers the number of its refusal and leaves the buffer as it was.
+pub fn write_block(out: &mut [u8], number: u32, n: u8, records: &[u8]) -> u8
+    ensures { λ r. ⌜ r ≡ writeNumber (length (now (out .entry))) n (now (records .entry)) ⌝ }
+    ensures { λ r. ⌜ now (out .exit) ≡ written r (now (out .entry)) (blockWith number n (now (records .entry))) ⌝ }
+{
+    let refusal = write_number(out.len(), n, records);
+    if refusal == 0 {
+        store_block(out, number, n, records);
+    }
+    refusal
+}
