@@ -1,2 +1,3 @@
 pub mod Little
 pub mod Round
+pub mod Walk

@@ -7,16 +7,11 @@ use native.Mathlib.Omega.{arith}
 use native.Mathlib.Numerals.{add-one}
 use native.Mathlib.Nat.{mul-le-mul}
 use lib.Dec.{ltb}
-use lib.ListN.{length, take, drop, getD, set, length-drop, drop-of-length-le}
-use lib.Seq.{slice, slice-cons, length-take-le, drop-cons, drop-drop, take-all, sets}
+use lib.ListN.{length, take, drop, getD, set, drop-of-length-le}
+use lib.Seq.{slice, slice-cons, length-take-le, drop-cons, sets}
 use borrow.Author.Tests.{ltb-true, eqb-true}
-use Rattle.record.specs.Layout.{actionAt, actionsOf}
 use Rattle.runfile.specs.Block.{zeros, isCount}
 use Rattle.runfile.specs.Write.{isRecords}
-
--- the part of a list from a place to its end
-pub tail-part : (s : List ℕ) (k : ℕ) → take (length s - k) (drop k s) ≡ drop k s
-tail-part s k = take-all (length s - k) (drop k s) (simp length-drop (omega arith))
 
 -- bytes looked at from place i up to place t
 module _ (s : List ℕ) (i t : ℕ) (fits : t ≤ length s) where
@@ -34,19 +29,6 @@ term-small x i p q =
     let a : x ≤ 255 = omega arith in
     let b : i + 1 ≤ 510 = omega arith in
     mul-le-mul a b
-
--- so many records from record k on
-pub records-more : (s : List ℕ) (count k : ℕ) → k < count
-    → actionsOf (count - k) (drop (16 * k) s) ≡ actionAt (drop (16 * k) s) ∷ actionsOf (count - (k + 1)) (drop (16 * (k + 1)) s)
-records-more s count k h =
-    let w : count - k ≡ suc (count - (k + 1)) = omega arith in
-    let e : 16 * (k + 1) ≡ 16 * k + 16 = omega arith in
-    rw (w, e, drop-drop 16 (16 * k) s)
-
-pub records-none : (s : List ℕ) (count k : ℕ) → count ≤ k → actionsOf (count - k) (drop (16 * k) s) ≡ []
-records-none s count k h =
-    let w : count - k ≡ 0 = omega arith in
-    rw w
 
 -- bytes stored, and zeros stored, from place i on
 pub bytes-more : (out bytes : List ℕ) (at i : ℕ) → i < length bytes

@@ -3,7 +3,7 @@ use Prim.Native.Nat.{_-_, _*_, _≤_}
 use native.Mathlib.Nat.{sub-zero}
 use lib.ListN.{drop}
 use borrow.Author.Needs.{needs}
-use Rattle.runfile.proofs.Loops.{tail-part, records-more, records-none}
+use Rattle.record.proofs.Walk.{tail-part, records-more, records-none}
 use Rattle.runfile.specs.Write.{firstRefusal}
 use Rattle.record.specs.Layout.{actionsOf}
 use Rattle.runfile.proofs.first_refusal.Statement.{statement}

@@ -1,0 +1,7 @@
+pub mod BoolLaws
+pub mod MarkLaws
+pub mod PhaseLaws
+pub mod ReadLaws
+pub mod ViewLaws
+pub mod Advances
+pub mod SameView

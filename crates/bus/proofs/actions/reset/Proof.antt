@@ -1,0 +1,45 @@
+use borrow.Author.Tests.{not-true, not-false}
+use Rattle.charts.specs.Actions.{reset}
+use borrow.Author.Needs.{needs}
+use Rattle.bus.proofs.actions.reset.Statement.{statement}
+use Rattle.bus.proofs.actions.reset.Tie as tie
+
+is-idle-requires : tie.Need-is-idle-requires
+is-idle-requires c κs = search needs
+
+closed-requires : tie.Need-closed-requires
+closed-requires c κs = search needs
+
+returns : tie.Need-returns
+unfolding reset
+returns c = simp (← c .before .before .is-idle .ensures, not-true (c .before .before .is-idle .result) (c .before .if1 .taken), c .closed .ensures)
+
+some-requires : tie.Need-some-requires
+some-requires c κs = search needs
+
+closed-requires-2 : tie.Need-closed-requires-2
+closed-requires-2 c κs = search needs
+
+returns-2 : tie.Need-returns-2
+unfolding reset
+returns-2 c = simp (← c .before .before .before .before .is-idle .ensures, not-false (c .before .before .before .before .is-idle .result) (c .before .before .before .if1 .left), ← c .before .before .some .ensures, not-true (c .before .before .some .result) (c .before .if2 .taken), c .closed2 .ensures)
+
+does-requires : tie.Need-does-requires
+does-requires c κs = search needs
+
+returns-3 : tie.Need-returns-3
+unfolding reset
+returns-3 c = simp (← c .before .before .before .before .is-idle .ensures, not-false (c .before .before .before .before .is-idle .result) (c .before .before .before .if1 .left), ← c .before .before .some .ensures, not-false (c .before .before .some .result) (c .before .if2 .left), c .does .ensures)
+
+pub reset-spec : {M : Type 1} → statement M
+reset-spec =
+    tie.close
+    (tie.spec
+    is-idle-requires
+    closed-requires
+    returns
+    some-requires
+    closed-requires-2
+    returns-2
+    does-requires
+    returns-3)

@@ -1,0 +1,113 @@
+use Rattle.charts.specs.Actions.{outcome}
+use borrow.Author.Needs.{needs}
+use Rattle.bus.proofs.decide.play.Statement.{statement}
+use Rattle.bus.proofs.decide.play.Tie as tie
+
+enum-known-m : tie.Need-enum-known-m
+enum-known-m c = search needs
+
+request-requires : tie.Need-request-requires
+request-requires c κs = search needs
+
+enum-told : tie.Need-enum-told
+enum-told c = search needs
+
+arbitrate-requires : tie.Need-arbitrate-requires
+arbitrate-requires c κs = search needs
+
+enum-known-m-2 : tie.Need-enum-known-m-2
+enum-known-m-2 c = search needs
+
+respond-requires : tie.Need-respond-requires
+respond-requires c κs = search needs
+
+enum-told-2 : tie.Need-enum-told-2
+enum-told-2 c = search needs
+
+clock-requires : tie.Need-clock-requires
+clock-requires c κs = search needs
+
+enum-known-m-3 : tie.Need-enum-known-m-3
+enum-known-m-3 c = search needs
+
+carry-requires : tie.Need-carry-requires
+carry-requires c κs = search needs
+
+enum-told-3 : tie.Need-enum-told-3
+enum-told-3 c = search needs
+
+grant-requires : tie.Need-grant-requires
+grant-requires c κs = search needs
+
+enum-told-4 : tie.Need-enum-told-4
+enum-told-4 c = search needs
+
+gap-requires : tie.Need-gap-requires
+gap-requires c κs = search needs
+
+enum-told-5 : tie.Need-enum-told-5
+enum-told-5 c = search needs
+
+reset-requires : tie.Need-reset-requires
+reset-requires c κs = search needs
+
+returns : tie.Need-returns
+unfolding outcome
+returns c = simp (c .before .before .m .given .1, c .request .ensures)
+
+returns-2 : tie.Need-returns-2
+unfolding outcome
+returns-2 c = simp (c .before .enum-told .given .1, c .arbitrate .ensures)
+
+returns-3 : tie.Need-returns-3
+unfolding outcome
+returns-3 c = simp (c .before .before .m2 .given .1, c .respond .ensures)
+
+returns-4 : tie.Need-returns-4
+unfolding outcome
+returns-4 c = simp (c .before .enum-told2 .given .1, c .clock .ensures)
+
+returns-5 : tie.Need-returns-5
+unfolding outcome
+returns-5 c = simp (c .before .before .m3 .given .1, c .carry .ensures)
+
+returns-6 : tie.Need-returns-6
+unfolding outcome
+returns-6 c = simp (c .before .enum-told3 .given .1, c .grant .ensures)
+
+returns-7 : tie.Need-returns-7
+unfolding outcome
+returns-7 c = simp (c .before .enum-told4 .given .1, c .gap .ensures)
+
+returns-8 : tie.Need-returns-8
+unfolding outcome
+returns-8 c = simp (c .before .enum-told5 .given .1, c .reset .ensures)
+
+pub play-spec : {M : Type 1} → statement M
+play-spec =
+    tie.close
+    (tie.spec
+    enum-known-m
+    request-requires
+    enum-told
+    arbitrate-requires
+    enum-known-m-2
+    respond-requires
+    enum-told-2
+    clock-requires
+    enum-known-m-3
+    carry-requires
+    enum-told-3
+    grant-requires
+    enum-told-4
+    gap-requires
+    enum-told-5
+    reset-requires
+    returns
+    returns-2
+    returns-3
+    returns-4
+    returns-5
+    returns-6
+    returns-7
+    returns-8)

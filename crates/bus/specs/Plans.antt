@@ -1,0 +1,52 @@
+-- Plans: what an action, or a refused record, comes to for the one node that it is about.
+use mathlib.Core.Path.{_≡_}
+use mathlib.Core.Bool.{Bool, true}
+use Prim.Native.Nat.{ℕ, _<_, _≤_}
+use Rattle.charts.specs.declared.Report.{Report}
+use Rattle.charts.specs.declared.Report.the-variants.{Silent}
+use Rattle.charts.specs.declared.Phase.{Phase}
+use Rattle.charts.specs.declared.Cell.{Cell}
+use Rattle.charts.specs.declared.Clears.{Clears}
+use Rattle.charts.specs.declared.Clears.the-variants as C
+use Rattle.charts.specs.declared.Decoded.{Decoded}
+use Rattle.charts.specs.declared.Decoded.the-variants.{Refused, Accepted}
+use Rattle.charts.specs.Numbers as N
+use Rattle.charts.specs.Actions.{Outcome, closed, does, target, outcome}
+use Rattle.charts.specs.Valid.{phaseFits}
+use Rattle.bus.specs.declared.plans.Plan.{Plan}
+
+-- "A refused step returns the number, the state handed in and no report"
+abbrev pub refusing : ℕ → Phase → Cell → Plan
+refusing k p c = record { number = k; report = Silent; phase = p; cell = c; clears = C.Nothing }
+
+abbrev pub doing : Report → Phase → Cell → Clears → Plan
+doing r p c x = record { number = N.accepted; report = r; phase = p; cell = c; clears = x }
+
+-- the plan of an outcome, on a bus in phase p, for a node whose cell is c
+abbrev pub settled : Phase → Cell → Outcome → Plan
+settled p c closed = refusing N.not-open p c
+settled p c (does r q d x) = doing r q d x
+
+-- the node that a record is about; a refused one changes nothing at node 0
+abbrev pub aimed : ℕ → Phase → (ℕ → Bool) → Decoded → ℕ
+aimed n p ps (Refused k) = 0
+aimed n p ps (Accepted m) = target n p ps m
+
+-- the plan of a record about node i, whose cell is c
+abbrev pub planned : ℕ → Phase → ℕ → Cell → (ℕ → Bool) → (ℕ → Bool) → (ℕ → Bool) → Decoded → Plan
+planned n p i c ws ps hs (Refused k) = refusing k p c
+planned n p i c ws ps hs (Accepted m) = settled p c (outcome n p i c ws ps hs m)
+
+-- what indexing by an accepted record needs
+pub record Fits (n : ℕ) (p : Phase) (i : ℕ) : Type 0 where
+  pub size : n ≤ 63
+  pub stage : phaseFits n p ≡ true
+  pub node : i < 63
+
+abbrev pub Ready : ℕ → Phase → (ℕ → Bool) → Decoded → Type 0
+Ready n p ps (Refused k) = Unit {0}
+Ready n p ps (Accepted m) = Fits n p (target n p ps m)
+
+abbrev pub numberOf : Decoded → ℕ
+numberOf (Refused k) = k
+numberOf (Accepted m) = N.accepted

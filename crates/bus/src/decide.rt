@@ -1,0 +1,109 @@
+// The plan of any record that was looked at, and the node that it is about.
+ghost use mathlib.Core.Path.{_≡_};
+ghost use mathlib.Core.Bool.{true};
+ghost use Prim.Native.Nat.{_<_, _≤_};
+ghost use Rattle.charts.specs.Actions.{target, outcome};
+ghost use Rattle.charts.specs.Valid.{phaseFits};
+ghost use Rattle.charts.specs.View.{mark};
+ghost use Rattle.bus.specs.Plans.{settled, aimed, planned, numberOf, Ready};
+use crate::actions;
+use crate::marks;
+use crate::phases;
+use crate::plans;
+use crate::plans::Plan;
+use charts::Cell;
+use charts::Decoded;
+use charts::Move;
+use charts::Phase;
+
+// The node that an action is about.
+fn target(n: u8, phase: Phase, pending: [bool; 63], m: Move) -> u8
+    requires { ⌜ n ≤ 63 ⌝ }
+    ensures { λ r. ⌜ r ≡ target n phase (mark pending) m ⌝ }
+{
+    match m {
+        Move::Request { node, packet: _ } => node,
+        Move::Arbitrate(i) => i,
+        Move::Respond {
+            node,
+            ack: _,
+            hold: _,
+        } => node,
+        Move::Clock(i) => i,
+        Move::Carry(_) => phases::next_of(phase),
+        Move::Grant => marks::lowest(pending, n),
+        Move::GapNext => phases::next_of(phase),
+        Move::Reset => 0,
+    }
+}
+
+// The plan of an action about node i, whose cell is c.
+fn play(
+    n: u8,
+    phase: Phase,
+    i: u8,
+    c: Cell,
+    won: [bool; 63],
+    pending: [bool; 63],
+    holder: [bool; 63],
+    m: Move,
+) -> Plan
+    requires { ⌜ n ≤ 63 ⌝ }
+    requires { ⌜ phaseFits n phase ≡ true ⌝ }
+    requires { ⌜ i < 63 ⌝ }
+    ensures { λ r. ⌜ r ≡ settled phase c (outcome n phase i c (mark won) (mark pending) (mark holder) m) ⌝ }
+{
+    match m {
+        Move::Request { node: _, packet } => actions::request(phase, c, packet),
+        Move::Arbitrate(_) => actions::arbitrate(phase, i, c),
+        Move::Respond { node: _, ack, hold } => actions::respond(phase, c, ack, hold),
+        Move::Clock(_) => actions::clock(n, phase, i, c, holder),
+        Move::Carry(way) => actions::carry(n, phase, c, pending, way),
+        Move::Grant => actions::grant(n, phase, i, c, pending),
+        Move::GapNext => actions::gap(n, phase, c),
+        Move::Reset => actions::reset(n, phase, c, won),
+    }
+}
+
+// The number of a refusal.
+fn number_of(d: Decoded) -> u8
+    ensures { λ r. ⌜ r ≡ numberOf d ⌝ }
+{
+    match d {
+        Decoded::Refused(k) => k,
+        Decoded::Accepted(_) => 0,
+    }
+}
+
+// The node that a record is about; a refused one is about none, and node 0's cell stays.
+pub(crate) fn aim(n: u8, phase: Phase, pending: [bool; 63], d: Decoded) -> u8
+    requires { ⌜ Ready n phase (mark pending) d ⌝ }
+    ensures { λ r. ⌜ r ≡ aimed n phase (mark pending) d ⌝ }
+    ensures { λ r. ⌜ r < 63 ⌝ }
+{
+    let Decoded::Accepted(m) = d else {
+        return 0;
+    };
+    target(n, phase, pending, m)
+}
+
+// The plan of a record about node i, whose cell is c.
+pub(crate) fn decide(
+    n: u8,
+    phase: Phase,
+    i: u8,
+    c: Cell,
+    won: [bool; 63],
+    pending: [bool; 63],
+    holder: [bool; 63],
+    d: Decoded,
+) -> Plan
+    requires { ⌜ Ready n phase (mark pending) d ⌝ }
+    requires { ⌜ i < 63 ⌝ }
+    ensures { λ r. ⌜ r ≡ planned n phase i c (mark won) (mark pending) (mark holder) d ⌝ }
+{
+    let Decoded::Accepted(m) = d else {
+        return plans::refuse(number_of(d), phase, c);
+    };
+    play(n, phase, i, c, won, pending, holder, m)
+}

@@ -1,0 +1,5 @@
+pub mod Cases
+pub mod Turns
+pub mod Loop
+pub mod Pieces
+pub mod Whole

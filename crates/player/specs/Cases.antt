@@ -1,0 +1,157 @@
+-- Document 01's marked cases A to I as rows of one table: the bytes of a file, and the text that document 01 says it prints. (proofs/Cases.antt tests the table.)
+use mathlib.Core.List.{List, [], _∷_, _++_}
+use Prim.Native.Nat.{ℕ}
+use lib.ListN.{replicate}
+use Rattle.charts.specs.declared.Action.{Action}
+use Rattle.runfile.specs.File.{fileOf}
+use Rattle.transcript.specs.Text.{ascii}
+
+-- an action record, and those of the kinds that the cases use, with the fields that each kind names
+abbrev recordOf : ℕ → ℕ → ℕ → ℕ → ℕ → ℕ → ℕ → Action
+recordOf kind node address ack hold header datum =
+    record { kind = kind; node = node; address = address; ack = ack; hold = hold; byte5 = 0; byte6 = 0; byte7 = 0; header = header; datum = datum }
+
+abbrev request : ℕ → ℕ → ℕ → ℕ → Action
+request i to h d = recordOf 1 i to 0 0 h d
+
+abbrev arbitrate : ℕ → Action
+arbitrate i = recordOf 2 i 0 0 0 0 0
+
+abbrev respond : ℕ → ℕ → ℕ → Action
+respond i a hold = recordOf 3 i 0 a hold 0 0
+
+abbrev clock : ℕ → Action
+clock i = recordOf 4 i 0 0 0 0 0
+
+abbrev pass : Action
+pass = recordOf 5 0 0 0 0 0 0
+
+abbrev lose : Action
+lose = recordOf 6 0 0 0 0 0 0
+
+abbrev change : ℕ → Action
+change to = recordOf 7 0 to 0 0 0 0
+
+abbrev grant : Action
+grant = recordOf 8 0 0 0 0 0 0
+
+abbrev gap : Action
+gap = recordOf 9 0 0 0 0 0 0
+
+-- "request 0 to 63 (header 1, data 2), arbitrate 0, six times clock 0 and pass": node 0 of two sends, and this becomes of its Header and of its Data
+abbrev sends : ℕ → ℕ → ℕ → Action → Action → List Action
+sends to h d header datum =
+    request 0 to h d ∷ arbitrate 0 ∷ clock 0 ∷ pass ∷ clock 0 ∷ pass ∷ clock 0 ∷ pass ∷ clock 0 ∷ header ∷ clock 0 ∷ datum ∷ clock 0 ∷ pass ∷ []
+
+-- "grant, respond 1 with 1 and hold 0, three times clock 1 and pass […]; two gaps": node 1 answers, and this becomes of its Ack
+abbrev answers : ℕ → Action → List Action
+answers a ack = grant ∷ respond 1 a 0 ∷ clock 1 ∷ pass ∷ clock 1 ∷ ack ∷ clock 1 ∷ pass ∷ gap ∷ gap ∷ []
+
+-- F: "n = 3, 0 to 1, node 2's Dest changed to 2 […] both grants"
+abbrev misled : List Action
+misled =
+    request 0 1 5 6 ∷ arbitrate 0 ∷ clock 0 ∷ pass ∷ pass ∷ clock 0 ∷ pass ∷ pass ∷ clock 0 ∷ pass ∷ change 2
+    ∷ clock 0 ∷ pass ∷ pass ∷ clock 0 ∷ pass ∷ pass ∷ clock 0 ∷ pass ∷ pass ∷ grant ∷ grant ∷ []
+
+pub record Row : Type 0 where
+  pub file : List ℕ
+  pub text : List ℕ
+
+abbrev pub case-A : Row
+case-A = record {
+  file = fileOf 2 (sends 63 1 2 pass pass ++ (gap ∷ gap ∷ []));
+  text = ascii "nodes 2\n0 1 -\n1 2 0 won\n2 4 -\n3 5 -\n4 4 -\n5 5 -\n6 4 -\n7 5 -\n8 4 -\n9 5 -\n10 4 -\n11 5 -\n12 4 0 sent\n13 5 1 broad 1 2\n14 9 -\n15 9 -\ndone 16\n";
+}
+
+abbrev pub case-B : Row
+case-B = record {
+  file = fileOf 2 (sends 1 5 6 pass pass ++ answers 1 pass);
+  text = ascii "nodes 2\n0 1 -\n1 2 0 won\n2 4 -\n3 5 -\n4 4 -\n5 5 -\n6 4 -\n7 5 -\n8 4 -\n9 5 -\n10 4 -\n11 5 -\n12 4 -\n13 5 1 good 5 6\n14 8 -\n15 3 -\n16 4 -\n17 5 -\n18 4 -\n19 5 -\n20 4 -\n21 5 0 ack 1\n22 9 -\n23 9 -\ndone 24\n";
+}
+
+-- "B with change at 11: 13 reports `1 dcrc 5`"
+abbrev pub case-C : Row
+case-C = record {
+  file = fileOf 2 (sends 1 5 6 pass (change 0) ++ answers 1 pass);
+  text = ascii "nodes 2\n0 1 -\n1 2 0 won\n2 4 -\n3 5 -\n4 4 -\n5 5 -\n6 4 -\n7 5 -\n8 4 -\n9 5 -\n10 4 -\n11 7 -\n12 4 -\n13 5 1 dcrc 5\n14 8 -\n15 3 -\n16 4 -\n17 5 -\n18 4 -\n19 5 -\n20 4 -\n21 5 0 ack 1\n22 9 -\n23 9 -\ndone 24\n";
+}
+
+-- "B with lose at 9, nothing reported at 13; grant, clock 1, gap: index 16 reports `0 miss`"
+abbrev pub case-D : Row
+case-D = record {
+  file = fileOf 2 (sends 1 5 6 lose pass ++ (grant ∷ clock 1 ∷ gap ∷ []));
+  text = ascii "nodes 2\n0 1 -\n1 2 0 won\n2 4 -\n3 5 -\n4 4 -\n5 5 -\n6 4 -\n7 5 -\n8 4 -\n9 6 -\n10 4 -\n11 5 -\n12 4 -\n13 5 -\n14 8 -\n15 4 -\n16 9 0 miss\ndone 17\n";
+}
+
+-- "B with lose at 19: 21 reports `0 miss`"
+abbrev pub case-E : Row
+case-E = record {
+  file = fileOf 2 (sends 1 5 6 pass pass ++ answers 1 lose);
+  text = ascii "nodes 2\n0 1 -\n1 2 0 won\n2 4 -\n3 5 -\n4 4 -\n5 5 -\n6 4 -\n7 5 -\n8 4 -\n9 5 -\n10 4 -\n11 5 -\n12 4 -\n13 5 1 good 5 6\n14 8 -\n15 3 -\n16 4 -\n17 5 -\n18 4 -\n19 6 -\n20 4 -\n21 5 0 miss\n22 9 -\n23 9 -\ndone 24\n";
+}
+
+-- "after both grants clock 1 is refused 7 until clock 2": the refusal ends a run, so these are two runs
+abbrev pub case-F-refused : Row
+case-F-refused = record {
+  file = fileOf 3 (misled ++ (clock 1 ∷ []));
+  text = ascii "nodes 3\n0 1 -\n1 2 0 won\n2 4 -\n3 5 -\n4 5 -\n5 4 -\n6 5 -\n7 5 -\n8 4 -\n9 5 -\n10 7 -\n11 4 -\n12 5 -\n13 5 -\n14 4 -\n15 5 -\n16 5 -\n17 4 -\n18 5 1 good 5 6\n19 5 -\n20 8 -\n21 8 -\nrefused 22 7\n";
+}
+
+abbrev pub case-F-taken : Row
+case-F-taken = record {
+  file = fileOf 3 (misled ++ (clock 2 ∷ clock 1 ∷ []));
+  text = ascii "nodes 3\n0 1 -\n1 2 0 won\n2 4 -\n3 5 -\n4 5 -\n5 4 -\n6 5 -\n7 5 -\n8 4 -\n9 5 -\n10 7 -\n11 4 -\n12 5 -\n13 5 -\n14 4 -\n15 5 -\n16 5 -\n17 4 -\n18 5 1 good 5 6\n19 5 -\n20 8 -\n21 8 -\n22 4 -\n23 4 -\ndone 24\n";
+}
+
+abbrev pub case-G : Row
+case-G = record {
+  file = replicate 512 0;
+  text = ascii "refused 0 1\n";
+}
+
+abbrev pub case-H : Row
+case-H = record {
+  file = fileOf 2 (arbitrate 0 ∷ []);
+  text = ascii "nodes 2\nrefused 0 7\n";
+}
+
+-- "n = 1 refused, 2 and 63 taken, 64 refused; acknowledgement 15 taken, 16 refused"
+abbrev pub case-I-1 : Row
+case-I-1 = record {
+  file = fileOf 1 (request 0 0 0 0 ∷ []);
+  text = ascii "refused 0 1\n";
+}
+
+abbrev pub case-I-2 : Row
+case-I-2 = record {
+  file = fileOf 2 (request 0 1 0 0 ∷ []);
+  text = ascii "nodes 2\n0 1 -\ndone 1\n";
+}
+
+abbrev pub case-I-63 : Row
+case-I-63 = record {
+  file = fileOf 63 (request 62 61 0 0 ∷ []);
+  text = ascii "nodes 63\n0 1 -\ndone 1\n";
+}
+
+abbrev pub case-I-64 : Row
+case-I-64 = record {
+  file = fileOf 64 (request 0 1 0 0 ∷ []);
+  text = ascii "refused 0 1\n";
+}
+
+abbrev pub case-I-15 : Row
+case-I-15 = record {
+  file = fileOf 2 (sends 1 5 6 pass pass ++ answers 15 pass);
+  text = ascii "nodes 2\n0 1 -\n1 2 0 won\n2 4 -\n3 5 -\n4 4 -\n5 5 -\n6 4 -\n7 5 -\n8 4 -\n9 5 -\n10 4 -\n11 5 -\n12 4 -\n13 5 1 good 5 6\n14 8 -\n15 3 -\n16 4 -\n17 5 -\n18 4 -\n19 5 -\n20 4 -\n21 5 0 ack 15\n22 9 -\n23 9 -\ndone 24\n";
+}
+
+abbrev pub case-I-16 : Row
+case-I-16 = record {
+  file = fileOf 2 (sends 1 5 6 pass pass ++ answers 16 pass);
+  text = ascii "nodes 2\n0 1 -\n1 2 0 won\n2 4 -\n3 5 -\n4 4 -\n5 5 -\n6 4 -\n7 5 -\n8 4 -\n9 5 -\n10 4 -\n11 5 -\n12 4 -\n13 5 1 good 5 6\n14 8 -\nrefused 15 6\n";
+}
+
+abbrev pub cases : List Row
+cases =
+    case-A ∷ case-B ∷ case-C ∷ case-D ∷ case-E ∷ case-F-refused ∷ case-F-taken ∷ case-G ∷ case-H ∷ case-I-1 ∷ case-I-2 ∷ case-I-63 ∷ case-I-64 ∷ case-I-15 ∷ case-I-16 ∷ []

@@ -1,0 +1,124 @@
+// One block of a file: looked at, announced, and its actions played.
+ghost use mathlib.Core.Path.{_≡_};
+ghost use mathlib.Core.List.{_∷_, []};
+ghost use Prim.Native.Nat.{_+_, _*_, _≤_};
+ghost use lib.ListN.{length};
+ghost use Rattle.charts.specs.View.{view};
+ghost use Rattle.runfile.specs.Block.{blockFits};
+ghost use Rattle.transcript.specs.Room.{Puts};
+ghost use Rattle.player.specs.Feeding.{lookOf, refusalOf, headingOf, partOf, Plays};
+ghost use Rattle.player.specs.Printed.{actionsIn};
+use crate::Stage;
+use crate::stages;
+use charts::Bus;
+use runfile::BlockHead;
+
+pub(crate) const WRONG_LENGTH: u8 = 8;
+
+const WRONG_ORDER: u8 = 10;
+
+const WRONG_COUNT: u8 = 11;
+
+// The piece looked at by 8, 9, 1, 10, 11; m is block 0's n.
+pub(crate) fn look(stage: Stage, m: u8, piece: &[u8]) -> BlockHead
+    ensures { λ r. ⌜ r ≡ lookOf stage m (now (piece .entry)) ⌝ }
+    ensures { λ r. ⌜ blockFits (now (piece .entry)) r ⌝ }
+{
+    let head = runfile::read_head(piece);
+    let BlockHead::Holds {
+        number,
+        count: _,
+        n,
+    } = head
+    else {
+        return head;
+    };
+    if !stages::is_next(stage, m, number, n) {
+        return BlockHead::Refused(WRONG_ORDER);
+    }
+    if !runfile::count_fits(piece) {
+        return BlockHead::Refused(WRONG_COUNT);
+    }
+    head
+}
+
+// The number of a refused head.
+pub(crate) fn refusal(head: BlockHead) -> u8
+    ensures { λ r. ⌜ r ≡ refusalOf head ⌝ }
+{
+    match head {
+        BlockHead::Refused(k) => k,
+        BlockHead::Holds {
+            number: _,
+            count: _,
+            n: _,
+        } => 0,
+    }
+}
+
+// "`nodes` is printed once block 0 is accepted"
+pub(crate) fn put_heading(stage: Stage, n: u8, out: &mut [u8; 2048]) -> usize
+    ensures { λ r. ⌜ r ≤ 64 ⌝ }
+    ensures { λ r. ⌜ Puts (now (out .entry)) 0 (headingOf stage n) r (now (out .exit)) ⌝ }
+{
+    match stage {
+        Stage::Unopened => transcript::put_nodes(out, 0, n),
+        Stage::After {
+            number: _,
+            count: _,
+        } => 0,
+        Stage::Ended => 0,
+    }
+}
+
+// The bus after actions, the place after their text, and whether one of them was refused.
+pub(crate) struct Part {
+    pub bus: Bus,
+    pub end: usize,
+    pub ended: bool,
+}
+
+// Plays the actions of a block, the first of which has that index, and puts their text from place `at` on, up to the first refusal.
+pub(crate) fn play_actions(
+    b: Bus,
+    piece: &[u8],
+    count: u8,
+    first: u64,
+    out: &mut [u8; 2048],
+    at: usize,
+) -> Part
+    requires { ⌜ length (now piece) ≡ 512 ⌝ }
+    requires { ⌜ count ≤ 31 ⌝ }
+    requires { ⌜ first ≤ 133143986400 ⌝ }
+    requires { ⌜ at ≤ 64 ⌝ }
+    ensures { λ r. ⌜ r .end ≤ 2048 ⌝ }
+    ensures { λ r. ⌜ Plays (partOf (actionsIn count (now (piece .entry))) (view b) first) (now (out .entry)) at r (now (out .exit)) ⌝ }
+{
+    let last = count as usize;
+    let mut c = b;
+    let mut end = at;
+    let mut k: usize = 0;
+    while k < last {
+        let from = 14 + 16 * k;
+        let a = record::read_action(&piece[from..]);
+        let r = bus::advance(c, a);
+        c = r.bus;
+        let index = first + k as u64;
+        if r.number != 0 {
+            let stop = transcript::put_refused(out, end, index, r.number);
+            return Part {
+                bus: c,
+                end: stop,
+                ended: true,
+            };
+        }
+        let report = r.report;
+        end = transcript::put_line(out, end, index, a.kind, report);
+        k += 1;
+    }
+    Part {
+        bus: c,
+        end: end,
+        ended: false,
+    }
+}

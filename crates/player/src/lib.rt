@@ -1,0 +1,109 @@
+// Plays a run file block by block: each piece of 512 bytes that it is fed becomes text in a buffer that the caller lends.
+mod block;
+mod stages;
+
+ghost use mathlib.Core.Path.{_≡_};
+ghost use Prim.Native.Nat.{_≤_};
+ghost use lib.ListN.{length};
+ghost use Rattle.transcript.specs.Room.{put};
+ghost use Rattle.player.specs.Feeding.{seen, isEnded, started, feedOf, finishOf};
+use charts::Bus;
+use runfile::BlockHead;
+
+// How far a file has been played: before block 0, after a block (its number and its count), or to its end by a refusal.
+pub enum Stage {
+    Unopened,
+    After { number: u32, count: u8 },
+    Ended,
+}
+
+// The player between two pieces.
+pub struct Player {
+    pub bus: Bus,
+    pub stage: Stage,
+}
+
+// What a piece gives: the player after it, how many bytes of text it put, and whether a refusal has ended the run.
+pub struct Fed {
+    pub player: Player,
+    pub end: usize,
+    pub ended: bool,
+}
+
+// The player before a file.
+pub fn start() -> Player
+    ensures { λ r. ⌜ seen r ≡ started ⌝ }
+{
+    let begun = bus::fresh(0);
+    let bus = begun.bus;
+    Player {
+        bus: bus,
+        stage: Stage::Unopened,
+    }
+}
+
+// Plays a piece of a file. Its text stands at the start of `out`.
+pub fn feed(p: Player, piece: &[u8], out: &mut [u8; 2048]) -> Fed
+    ensures { λ r. ⌜ r .end ≤ 2048 ⌝ }
+    ensures { λ r. ⌜ r .end ≡ length (feedOf (seen p) (now (piece .entry)) .text) ⌝ }
+    ensures { λ _. ⌜ now (out .exit) ≡ put (now (out .entry)) 0 (feedOf (seen p) (now (piece .entry)) .text) ⌝ }
+    ensures { λ r. ⌜ seen (r .player) ≡ feedOf (seen p) (now (piece .entry)) .after ⌝ }
+    ensures { λ r. ⌜ r .ended ≡ isEnded (r .player .stage) ⌝ }
+{
+    let stage = p.stage;
+    let bus = p.bus;
+    if stages::is_ended(stage) {
+        return Fed {
+            player: p,
+            end: 0,
+            ended: true,
+        };
+    }
+    let head = block::look(stage, bus.n, piece);
+    let BlockHead::Holds { number, count, n } = head else {
+        let end = transcript::put_refused(out, 0, stages::accepted_by(stage), block::refusal(head));
+        return Fed {
+            player: Player {
+                bus: bus,
+                stage: Stage::Ended,
+            },
+            end: end,
+            ended: true,
+        };
+    };
+    let at = block::put_heading(stage, n, out);
+    let part = block::play_actions(
+        stages::opening(stage, bus, n),
+        piece,
+        count,
+        stages::accepted_by(stage),
+        out,
+        at,
+    );
+    let after = part.bus;
+    Fed {
+        player: Player {
+            bus: after,
+            stage: stages::stage_after(part.ended, number, count),
+        },
+        end: part.end,
+        ended: part.ended,
+    }
+}
+
+// The file's end. Its text stands at the start of `out`; the answer is its length.
+pub fn finish(p: Player, out: &mut [u8; 2048]) -> usize
+    ensures { λ r. ⌜ r ≤ 2048 ⌝ }
+    ensures { λ r. ⌜ r ≡ length (finishOf (p .stage)) ⌝ }
+    ensures { λ _. ⌜ now (out .exit) ≡ put (now (out .entry)) 0 (finishOf (p .stage)) ⌝ }
+{
+    let stage = p.stage;
+    match stage {
+        Stage::Unopened => transcript::put_refused(out, 0, 0, block::WRONG_LENGTH),
+        Stage::After {
+            number: _,
+            count: _,
+        } => transcript::put_done(out, 0, stages::accepted_by(stage)),
+        Stage::Ended => 0,
+    }
+}

@@ -1,0 +1,23 @@
+-- What the question for room comes to. Assumes nothing.
+use Prim.Native.Nat.{ℕ, _+_, _≤_}
+use mathlib.Core.Path.{_≡_, refl, sym, _∙_}
+use mathlib.Core.Bool.{Bool, not, true, false}
+use mathlib.Core.List.{List}
+use borrow.Author.Tests.{leb-true, not-true, not-false, le-leb}
+use lib.Dec.{leb}
+use lib.ListN.{length}
+use Rattle.transcript.specs.Room.{longest, endOf, putLine, Puts}
+
+pub fits : {b : Bool} (at size : ℕ) → b ≡ leb (at + longest) size → not b ≡ false → at + longest ≤ size
+fits {b} at size e h = leb-true (at + longest) size (sym e ∙ not-false b h)
+
+-- with room the line is put; without it nothing is
+pub put-in-room : {buf after : List ℕ} {at end : ℕ} {text : List ℕ} → at + longest ≤ length buf → Puts buf at text end after → (end ≡ endOf buf at text) × (after ≡ putLine buf at text)
+put-in-room {buf} {at = at} h p = rw (le-leb (at + longest) (length buf) h) (p .ends, p .holds)
+
+pub no-room : {b : Bool} (buf : List ℕ) (at : ℕ) (text : List ℕ) → b ≡ leb (at + longest) (length buf) → not b ≡ true → (at ≡ endOf buf at text) × (buf ≡ putLine buf at text)
+no-room {b} buf at text e h = rw (sym e ∙ not-true b h) (refl, refl)
+
+-- the other way round: what a caller knows whose buffer has room
+pub puts-line : {buf after : List ℕ} {at end : ℕ} {text : List ℕ} → at + longest ≤ length buf → end ≡ endOf buf at text → after ≡ putLine buf at text → Puts buf at text end after
+puts-line {buf} {at = at} h e f = let room = le-leb (at + longest) (length buf) h in record { ends = rw room at e; holds = rw room at f }

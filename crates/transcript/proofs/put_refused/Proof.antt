@@ -1,0 +1,75 @@
+use lib.ListN.{length}
+use Rattle.transcript.specs.Lines.{refusedLine}
+use Rattle.transcript.proofs.Rooms.{fits, put-in-room, no-room}
+use Rattle.transcript.proofs.Puts.{and-then}
+use native.Mathlib.Omega.{arith}
+use borrow.Author.Needs.{needs}
+use Rattle.transcript.proofs.put_refused.Statement.{statement}
+use Rattle.transcript.proofs.put_refused.Tie as tie
+
+has-room-requires : tie.Need-has-room-requires
+has-room-requires c κs = search needs
+
+returns : tie.Need-returns
+returns c =
+    let a = c .before .before .before .args in
+    (omega arith, no-room (a .out .now) (a .at) _ (c .before .has-room .ensures) (c .if1 .taken))
+
+slice-aggregate-put-word : tie.Need-slice-aggregate-put-word
+slice-aggregate-put-word c = search needs
+
+put-word-requires : tie.Need-put-word-requires
+put-word-requires c κs =
+    let a = c .before .before .before .before .before .args in
+    let room = fits (a .at) (length (a .out .now)) (c .before .before .before .has-room .ensures) (c .before .before .if1 .left) in omega arith
+
+put-u64-requires : tie.Need-put-u64-requires
+put-u64-requires c κs =
+    let a = c .before .before .before .before .before .before .before .before .before .args in
+    let room = fits (a .at) (length (a .out .now)) (c .before .before .before .before .before .before .before .has-room .ensures) (c .before .before .before .before .before .before .if1 .left) in omega arith
+
+put-byte-requires : tie.Need-put-byte-requires
+put-byte-requires c κs =
+    let a = c .before .before .before .before .before .before .before .before .before .before .before .before .before .args in
+    let room = fits (a .at) (length (a .out .now)) (c .before .before .before .before .before .before .before .before .before .before .before .has-room .ensures) (c .before .before .before .before .before .before .before .before .before .before .if1 .left) in omega arith
+
+put-u8-requires : tie.Need-put-u8-requires
+put-u8-requires c κs =
+    let a = c .before .before .before .before .before .before .before .before .before .before .before .before .before .before .before .before .before .args in
+    let room = fits (a .at) (length (a .out .now)) (c .before .before .before .before .before .before .before .before .before .before .before .before .before .before .before .has-room .ensures) (c .before .before .before .before .before .before .before .before .before .before .before .before .before .before .if1 .left) in omega arith
+
+put-byte-requires-2 : tie.Need-put-byte-requires-2
+put-byte-requires-2 c κs =
+    let a = c .before .before .before .before .before .before .before .before .before .before .before .before .before .before .before .before .before .before .before .before .before .args in
+    let room = fits (a .at) (length (a .out .now)) (c .before .before .before .before .before .before .before .before .before .before .before .before .before .before .before .before .before .before .before .has-room .ensures) (c .before .before .before .before .before .before .before .before .before .before .before .before .before .before .before .before .before .before .if1 .left) in omega arith
+
+same-length : tie.Need-same-length
+same-length c = search needs
+
+returns-2 : tie.Need-returns-2
+unfolding refusedLine
+returns-2 c =
+    let a = c .before .before .before .before .before .before .before .before .before .before .before .before .before .before .before .before .before .before .before .before .before .before .before .before .args in
+    let room = fits (a .at) (length (a .out .now)) (c .before .before .before .before .before .before .before .before .before .before .before .before .before .before .before .before .before .before .before .before .before .before .has-room .ensures) (c .before .before .before .before .before .before .before .before .before .before .before .before .before .before .before .before .before .before .before .before .before .if1 .left) in (
+      omega arith,
+      put-in-room room (and-then (c .before .before .before .before .before .before .before .before .before .before .before .before .before .before .before .before .before .before .put-word .ensures)
+          (and-then (c .before .before .before .before .before .before .before .before .before .before .before .before .before .before .put-u64 .ensures .1)
+          (and-then (c .before .before .before .before .before .before .before .before .before .before .put-byte .ensures)
+          (and-then (c .before .before .before .before .before .before .put-u8 .ensures .1)
+          (c .before .before .put-byte2 .ensures))))),
+    )
+
+pub put-refused-spec : {M : Type 1} → statement M
+put-refused-spec =
+    tie.close
+    (tie.spec
+    has-room-requires
+    returns
+    slice-aggregate-put-word
+    put-word-requires
+    put-u64-requires
+    put-byte-requires
+    put-u8-requires
+    put-byte-requires-2
+    same-length
+    returns-2)

@@ -1,0 +1,20 @@
+use Rattle.transcript.proofs.Puts.{and-then}
+use native.Mathlib.Omega.{arith}
+use borrow.Author.Needs.{needs}
+use Rattle.transcript.proofs.text.put_last.Statement.{statement}
+use Rattle.transcript.proofs.text.put_last.Tie as tie
+
+put-u32-requires : tie.Need-put-u32-requires
+put-u32-requires c κs = search needs
+
+put-byte-requires : tie.Need-put-byte-requires
+put-byte-requires c κs = search needs
+
+same-length : tie.Need-same-length
+same-length c = search needs
+
+returns : tie.Need-returns
+returns c = (omega arith, and-then (c .before .before .before .before .before .before .put-u32 .ensures .1) (c .before .before .put-byte .ensures))
+
+pub put-last-spec : {M : Type 1} → statement M
+put-last-spec = tie.close (tie.spec put-u32-requires put-byte-requires same-length returns)

@@ -1,0 +1,122 @@
+// Words, figures and reports put into a buffer from a place on. Each function answers the place after what it put.
+ghost use mathlib.Core.Path.{_≡_};
+ghost use mathlib.Core.List.{[], _∷_, _++_};
+ghost use Prim.Native.Nat.{_+_, _≤_, _<_};
+ghost use lib.ListN.{length};
+ghost use Rattle.transcript.specs.Text.{decimal};
+ghost use Rattle.transcript.specs.Lines.{line, said};
+ghost use Rattle.transcript.specs.Room.{Puts};
+use charts::Report;
+
+pub(crate) fn put_byte(buf: &mut [u8], at: usize, b: u8) -> usize
+    requires { ⌜ at < length (now buf) ⌝ }
+    ensures { λ r. ⌜ Puts (now (buf .entry)) at (b ∷ []) r (now (buf .exit)) ⌝ }
+{
+    buf[at] = b;
+    at + 1
+}
+
+pub(crate) fn put_word(buf: &mut [u8], at: usize, w: &[u8]) -> usize
+    requires { ⌜ at + length (now w) ≤ length (now buf) ⌝ }
+    ensures { λ r. ⌜ Puts (now (buf .entry)) at (now (w .entry)) r (now (buf .exit)) ⌝ }
+{
+    let mut i: usize = 0;
+    while i < w.len() {
+        buf[at + i] = w[i];
+        i += 1;
+    }
+    at + i
+}
+
+fn put_decimal(buf: &mut [u8], at: usize, x: u64) -> usize
+    requires { ⌜ at + length (decimal x) ≤ length (now buf) ⌝ }
+    ensures { λ r. ⌜ Puts (now (buf .entry)) at (decimal x) r (now (buf .exit)) ⌝ }
+{
+    if x < 10 {
+        return put_byte(buf, at, 48 + x as u8);
+    }
+    let last = put_decimal(buf, at, x / 10);
+    put_byte(buf, last, 48 + (x % 10) as u8)
+}
+
+pub(crate) fn put_u8(buf: &mut [u8], at: usize, x: u8) -> usize
+    requires { ⌜ at + 3 ≤ length (now buf) ⌝ }
+    ensures { λ r. ⌜ r ≤ at + 3 ⌝ }
+    ensures { λ r. ⌜ Puts (now (buf .entry)) at (decimal x) r (now (buf .exit)) ⌝ }
+{
+    put_decimal(buf, at, x as u64)
+}
+
+pub(crate) fn put_u32(buf: &mut [u8], at: usize, x: u32) -> usize
+    requires { ⌜ at + 10 ≤ length (now buf) ⌝ }
+    ensures { λ r. ⌜ r ≤ at + 10 ⌝ }
+    ensures { λ r. ⌜ Puts (now (buf .entry)) at (decimal x) r (now (buf .exit)) ⌝ }
+{
+    put_decimal(buf, at, x as u64)
+}
+
+pub(crate) fn put_u64(buf: &mut [u8], at: usize, x: u64) -> usize
+    requires { ⌜ at + 20 ≤ length (now buf) ⌝ }
+    ensures { λ r. ⌜ r ≤ at + 20 ⌝ }
+    ensures { λ r. ⌜ Puts (now (buf .entry)) at (decimal x) r (now (buf .exit)) ⌝ }
+{
+    put_decimal(buf, at, x)
+}
+
+// "node and report" of a report that is a word.
+fn put_node(buf: &mut [u8], at: usize, node: u8, word: &[u8]) -> usize
+    requires { ⌜ at + 3 + length (now word) ≤ length (now buf) ⌝ }
+    ensures { λ r. ⌜ r ≤ at + 3 + length (now (word .entry)) ⌝ }
+    ensures { λ r. ⌜ Puts (now (buf .entry)) at (decimal node ++ now (word .entry)) r (now (buf .exit)) ⌝ }
+{
+    let a = put_u8(buf, at, node);
+    put_word(buf, a, word)
+}
+
+// A header or a datum as the line's last word.
+fn put_last(buf: &mut [u8], at: usize, x: u32) -> usize
+    requires { ⌜ at + 11 ≤ length (now buf) ⌝ }
+    ensures { λ r. ⌜ r ≤ at + 11 ⌝ }
+    ensures { λ r. ⌜ Puts (now (buf .entry)) at (line (decimal x ∷ [])) r (now (buf .exit)) ⌝ }
+{
+    let a = put_u32(buf, at, x);
+    put_byte(buf, a, b'\n')
+}
+
+// "node and report" of a report with header and data.
+fn put_packet(buf: &mut [u8], at: usize, node: u8, word: &[u8], header: u32, datum: u32) -> usize
+    requires { ⌜ at + 25 + length (now word) ≤ length (now buf) ⌝ }
+    ensures { λ r. ⌜ r ≤ at + 25 + length (now (word .entry)) ⌝ }
+    ensures { λ r. ⌜ Puts (now (buf .entry)) at (decimal node ++ (now (word .entry) ++ line (decimal header ∷ decimal datum ∷ []))) r (now (buf .exit)) ⌝ }
+{
+    let a = put_node(buf, at, node, word);
+    let b = put_u32(buf, a, header);
+    let c = put_byte(buf, b, b' ');
+    put_last(buf, c, datum)
+}
+
+// "`-` or node and report", and the end of the line.
+pub(crate) fn put_report(buf: &mut [u8], at: usize, report: Report) -> usize
+    requires { ⌜ at + 32 ≤ length (now buf) ⌝ }
+    ensures { λ r. ⌜ r ≤ at + 32 ⌝ }
+    ensures { λ r. ⌜ Puts (now (buf .entry)) at (line (said report)) r (now (buf .exit)) ⌝ }
+{
+    match report {
+        Report::Silent => put_word(buf, at, b"-\n"),
+        Report::Won(i) => put_node(buf, at, i, b" won\n"),
+        Report::Lost(i) => put_node(buf, at, i, b" lost\n"),
+        Report::Sent(i) => put_node(buf, at, i, b" sent\n"),
+        Report::Acked(i, a) => {
+            let b = put_node(buf, at, i, b" ack ");
+            let c = put_u8(buf, b, a);
+            put_byte(buf, c, b'\n')
+        }
+        Report::Miss(i) => put_node(buf, at, i, b" miss\n"),
+        Report::Good(i, h, d) => put_packet(buf, at, i, b" good ", h.header, d),
+        Report::Dcrc(i, h) => {
+            let b = put_node(buf, at, i, b" dcrc ");
+            put_last(buf, b, h.header)
+        }
+        Report::Broad(i, h, d) => put_packet(buf, at, i, b" broad ", h.header, d),
+    }
+}
