@@ -1,7 +1,5 @@
-pub mod BoolLaws
 pub mod MarkLaws
 pub mod PhaseLaws
 pub mod ReadLaws
 pub mod ViewLaws
 pub mod Advances
-pub mod SameView

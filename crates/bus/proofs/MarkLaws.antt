@@ -1,25 +1,18 @@
 -- Marks read, stored and cleared in an array. Assumes nothing.
-use mathlib.Core.Path.{_≡_, refl, sym, subst, fun-ext}
+use mathlib.Core.Path.{_≡_, refl, sym, fun-ext}
 use mathlib.Core.Bool.{Bool, true, false, cond, _&&_, not}
 use mathlib.Core.Logic.{_≢_}
 use mathlib.Core.List.{List}
 use Prim.Native.Nat.{ℕ, zero, suc, _+_, _-_, _<_, _≤_}
 use lib.Dec.{eqb, ltb}
 use native.Mathlib.Omega.{arith}
-use lib.ListN.{getD, set, length}
-use lib.Seq.{getD-set-same, getD-set-other}
+use lib.ListN.{set, length}
 use borrow.Author.Tests.{eqb-true, eqb-false, lt-ltb, le-ltb, ltb-true, ltb-false}
 use Rattle.charts.specs.State.{upd, lowest}
+use Rattle.charts.proofs.Tools.{and-yes}
+use Rattle.charts.proofs.Views.{getD-set}
 use Rattle.charts.specs.View.{mark}
 use Rattle.bus.specs.Marks.{unmarked}
-
--- a stored element, read at any place
-pub getD-set : {A : Type 0} (l : List A) (i : ℕ) (a d : A) → i < length l → (k : ℕ) → getD (set l i a) k d ≡ upd (λ k. getD l k d) i a k
-getD-set {A} l i a d h k = go (eqb k i) refl
-  where
-    go : (b : Bool) → eqb k i ≡ b → getD (set l i a) k d ≡ cond b a (getD l k d)
-    go true e = subst (λ x. getD (set l i a) x d ≡ a) (sym (eqb-true k i e)) (getD-set-same l i a d h)
-    go false e = getD-set-other l i k a d (eqb-false k i e)
 
 pub mark-set : (l : List Bool) (i : ℕ) (a : Bool) → i < length l → mark (set l i a) ≡ upd (mark l) i a
 mark-set l i a h = fun-ext (getD-set l i a false h)
@@ -28,26 +21,13 @@ pub lowest-more : (f : ℕ → Bool) (i d : ℕ) → 0 < i → lowest f i d ≡ 
 lowest-more f zero d h = let z : _≡_ {A = ℕ} 0 1 = omega arith in cc
 lowest-more f (suc k) d h = let e : suc k - 1 ≡ k = omega arith in rw e
 
--- the lowest marked node is one of the bus
-pub lowest-below : (f : ℕ → Bool) (n d m : ℕ) → d < m → n ≤ m → lowest f n d < m
-lowest-below f zero d m h l = h
-lowest-below f (suc n) d m h l = lowest-below f n (cond (f n) n d) m (go (f n)) (omega arith)
-  where
-    go : (o : Bool) → cond o n d < m
-    go true = omega arith
-    go false = h
-
-kept : (b : Bool) → b && true ≡ b
-kept true = refl
-kept false = refl
-
 gone : (b : Bool) → b && false ≡ false
 gone true = refl
 gone false = refl
 
 -- clearing the marks of no node, and of one node more
 pub unmarked-none : (f : ℕ → Bool) (k : ℕ) → f k ≡ unmarked true 0 f k
-unmarked-none f k = rw (le-ltb k 0 (omega arith)) (sym (kept (f k)))
+unmarked-none f k = rw (le-ltb k 0 (omega arith)) (sym (and-yes (f k)))
 
 pub unmarked-more : (f : ℕ → Bool) (l : List Bool) (n : ℕ) → n < length l → mark l ≡ unmarked true n f → mark (set l n false) ≡ unmarked true (n + 1) f
 unmarked-more f l n h e = fun-ext at

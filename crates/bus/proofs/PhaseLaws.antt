@@ -9,13 +9,13 @@ use Rattle.charts.specs.declared.Phase.{Phase}
 use Rattle.charts.specs.declared.Phase.the-variants.{Idle, Busy, Delivering, Granting, Gapping}
 use Rattle.charts.specs.Actions.{nextOf}
 use Rattle.charts.specs.Valid.{phaseFits}
-use Rattle.bus.proofs.BoolLaws.{and-left, and-right}
+use Rattle.charts.proofs.Tools.{and-true}
 
 -- the node that gets the next signal or the next Gap has a place in the arrays
 pub next-below : (n : ℕ) (p : Phase) → n ≤ 63 → phaseFits n p ≡ true → nextOf p < 63
 unfolding phaseFits
 next-below n Idle h e = omega arith
 next-below n Busy h e = omega arith
-next-below n (Delivering i s j) h e = omega (arith, ltb-true j n (and-left _ _ (and-right (ltb i n) _ e)))
+next-below n (Delivering i s j) h e = omega (arith, ltb-true j n (and-true (ltb j n) _ (and-true (ltb i n) _ e .1) .0))
 next-below n Granting h e = omega arith
 next-below n (Gapping j) h e = omega (arith, ltb-true j n e)

@@ -23,7 +23,7 @@ use Rattle.charts.specs.View.{view, cellOf, mark, freshNode, Sized}
 use Rattle.bus.specs.declared.plans.Plan.{Plan}
 use Rattle.bus.specs.Marks.{unmarked, clearsMisled, clearsWon}
 use Rattle.bus.specs.Plans.{settled, aimed, planned}
-use Rattle.bus.proofs.MarkLaws.{getD-set}
+use Rattle.charts.proofs.Views.{getD-set}
 
 pub view-n : (b : Bus) → view b .n ≡ b .n
 unfolding view

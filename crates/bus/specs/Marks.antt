@@ -1,20 +1,14 @@
 -- Marks cleared at every node of the bus.
-use mathlib.Core.Bool.{Bool, true, false, cond, _&&_, not}
+use mathlib.Core.Bool.{Bool, true, false, _&&_, not}
 use Prim.Native.Nat.{ℕ}
 use lib.Dec.{ltb}
-use Rattle.charts.specs.declared.Signal.{Signal}
 use Rattle.charts.specs.declared.Clears.{Clears}
 use Rattle.charts.specs.declared.Clears.the-variants as C
-use Rattle.charts.specs.Signals.{isStart}
 
 -- the marks f, with those of the nodes below n cleared if it is asked: "Records and marks of nodes from n on are neither read nor changed"
 abbrev pub unmarked : Bool → ℕ → (ℕ → Bool) → ℕ → Bool
 unmarked true n f k = f k && not (ltb k n)
 unmarked false n f k = f k
-
--- "Start clears the misled marks"
-abbrev pub clearsOf : Signal → Clears
-clearsOf s = cond (isStart s) C.Misled C.Nothing
 
 -- which marks a plan clears
 abbrev pub clearsMisled : Clears → Bool

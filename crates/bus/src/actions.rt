@@ -1,23 +1,21 @@
 // The actions of document 01, kinds 1 to 10: each makes a plan from the few values that it looks at, the phase, one cell and the marks of all nodes.
 // The bus's record is not handed in.
 ghost use mathlib.Core.Path.{_≡_};
-ghost use mathlib.Core.Bool.{true, false, cond, not, _&&_};
-ghost use Prim.Native.Nat.{suc, _<_, _≤_};
-ghost use lib.Dec.{ltb};
+ghost use mathlib.Core.Bool.{true, _&&_};
+ghost use Prim.Native.Nat.{_<_, _≤_};
 ghost use Rattle.charts.specs.declared.Report.the-variants as R;
 ghost use Rattle.charts.specs.declared.Phase.the-variants as P;
 ghost use Rattle.charts.specs.declared.Buffer.the-variants as B;
 ghost use Rattle.charts.specs.declared.Output.the-variants as O;
 ghost use Rattle.charts.specs.declared.Clears.the-variants as C;
 ghost use Rattle.charts.specs.Modes.{isRest};
-ghost use Rattle.charts.specs.Signals.{isEnd};
-ghost use Rattle.charts.specs.State.{isEmpty, upd, setMode, setBuffer, setWon, setPending, setHolder};
+ghost use Rattle.charts.specs.State.{isEmpty, upd};
 ghost use Rattle.charts.specs.Arrivals.{arrives};
 ghost use Rattle.charts.specs.Actions.{request, arbitrate, arbitrateWith, respond, clock, clockWith, carry, deliverWith, grant, gap, reset};
-ghost use Rattle.charts.specs.Actions.{starts, firstOther, nextOther, onward, hearing, granted};
+ghost use Rattle.charts.specs.Actions.{starts, wins, firstOther, nextOther, freed, afterFree, putsOut, clearedBy, onward, hearing};
+ghost use Rattle.charts.specs.Actions.{takesGrant, afterGrant, afterGap};
 ghost use Rattle.charts.specs.Valid.{phaseFits};
 ghost use Rattle.charts.specs.View.{mark};
-ghost use Rattle.bus.specs.Marks.{clearsOf};
 ghost use Rattle.bus.specs.Plans.{doing, settled};
 use crate::bools;
 use crate::cells;
@@ -78,7 +76,7 @@ pub(crate) fn request(phase: Phase, c: Cell, p: Packet) -> Plan
 
 // The cell of a node that has won the bus: marked won and holder, and the packet leaves its buffer.
 fn win(p: Packet, c: Cell) -> Cell
-    ensures { λ r. ⌜ r ≡ setBuffer B.Empty (setWon true (setHolder true (starts p c))) ⌝ }
+    ensures { λ r. ⌜ r ≡ wins p c ⌝ }
 {
     let held = cells::set_holder(true, start(p, c));
     cells::set_buffer(Buffer::Empty, cells::set_won(true, held))
@@ -151,13 +149,26 @@ fn next_other(i: u8, j: u8) -> u8
 }
 
 // "no holder left: bus Gapping from 0"
-fn after_freeing(left: bool) -> Phase
-    ensures { λ r. ⌜ r ≡ cond left P.Busy (P.Gapping 0) ⌝ }
+fn after_free(n: u8, i: u8, holder: [bool; 63]) -> Phase
+    requires { ⌜ n ≤ 63 ⌝ }
+    requires { ⌜ i < 63 ⌝ }
+    ensures { λ r. ⌜ r ≡ afterFree n i (mark holder) ⌝ }
 {
-    if left { Phase::Busy } else { Phase::Gapping(0) }
+    if marks::others(holder, i, n) {
+        Phase::Busy
+    } else {
+        Phase::Gapping(0)
+    }
 }
 
-// A Spurious node ends its holding; nobody hears it.
+// A Spurious node goes to Rest and stops being holder.
+fn freed(c: Cell) -> Cell
+    ensures { λ r. ⌜ r ≡ freed c ⌝ }
+{
+    cells::set_mode(Mode::Rest, cells::set_holder(false, c))
+}
+
+// A Spurious node puts out its End, which reaches nobody.
 fn free(n: u8, phase: Phase, i: u8, c: Cell, holder: [bool; 63]) -> Plan
     requires { ⌜ n ≤ 63 ⌝ }
     requires { ⌜ i < 63 ⌝ }
@@ -166,16 +177,12 @@ fn free(n: u8, phase: Phase, i: u8, c: Cell, holder: [bool; 63]) -> Plan
     if !c.holder {
         return plans::closed(phase, c);
     }
-    let next = after_freeing(marks::others(holder, i, n));
-    plans::quietly(
-        next,
-        cells::set_mode(Mode::Rest, cells::set_holder(false, c)),
-    )
+    plans::quietly(after_free(n, i, holder), freed(c))
 }
 
 // "Start clears the misled marks"
 fn clears_of(s: Signal) -> Clears
-    ensures { λ r. ⌜ r ≡ clearsOf s ⌝ }
+    ensures { λ r. ⌜ r ≡ clearedBy s ⌝ }
 {
     if link::signals::is_start(s) {
         Clears::Misled
@@ -186,7 +193,7 @@ fn clears_of(s: Signal) -> Clears
 
 // Node i puts out a signal; "End ends the holding".
 fn put(i: u8, c: Cell, s: Signal, m: Mode, report: Report) -> Plan
-    ensures { λ r. ⌜ r ≡ doing report (P.Delivering i s (firstOther i)) (setMode m (setHolder (not (isEnd s)) c)) (clearsOf s) ⌝ }
+    ensures { λ r. ⌜ r ≡ doing report (P.Delivering i s (firstOther i)) (putsOut s m c) (clearedBy s) ⌝ }
 {
     let ends = link::signals::is_end(s);
     let phase = Phase::Delivering {
@@ -340,15 +347,21 @@ pub(crate) fn carry(n: u8, phase: Phase, c: Cell, pending: [bool; 63], way: Way)
 }
 
 // "If none is pending after that: Busy"
-fn after_granting(left: bool) -> Phase
-    ensures { λ r. ⌜ r ≡ cond left P.Granting P.Busy ⌝ }
+fn after_grant(n: u8, i: u8, pending: [bool; 63]) -> Phase
+    requires { ⌜ n ≤ 63 ⌝ }
+    requires { ⌜ i < 63 ⌝ }
+    ensures { λ r. ⌜ r ≡ afterGrant n i (mark pending) ⌝ }
 {
-    if left { Phase::Granting } else { Phase::Busy }
+    if marks::others(pending, i, n) {
+        Phase::Granting
+    } else {
+        Phase::Busy
+    }
 }
 
 // The cell of a node that stops being pending and becomes holder.
-fn hold(c: Cell) -> Cell
-    ensures { λ r. ⌜ r ≡ setMode (granted (c .mode)) (setPending false (setHolder true c)) ⌝ }
+fn take_grant(c: Cell) -> Cell
+    ensures { λ r. ⌜ r ≡ takesGrant c ⌝ }
 {
     let mode = c.mode;
     cells::set_mode(
@@ -369,13 +382,13 @@ pub(crate) fn grant(n: u8, phase: Phase, i: u8, c: Cell, pending: [bool; 63]) ->
     if !marks::some(pending, n) {
         return plans::quietly(Phase::Busy, c);
     }
-    plans::quietly(after_granting(marks::others(pending, i, n)), hold(c))
+    plans::quietly(after_grant(n, i, pending), take_grant(c))
 }
 
 // "after node n−1 the bus is Idle"
 fn after_gap(n: u8, j: u8) -> Phase
     requires { ⌜ j < 63 ⌝ }
-    ensures { λ r. ⌜ r ≡ cond (ltb (suc j) n) (P.Gapping (suc j)) P.Idle ⌝ }
+    ensures { λ r. ⌜ r ≡ afterGap n j ⌝ }
 {
     if j + 1 < n {
         Phase::Gapping(j + 1)

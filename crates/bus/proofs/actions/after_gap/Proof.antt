@@ -1,5 +1,5 @@
-use native.Mathlib.Numerals.{add-one}
 use borrow.Author.Tests.{lt-ltb, le-ltb}
+use native.Mathlib.Numerals.{add-one}
 use borrow.Author.Needs.{needs}
 use Rattle.bus.proofs.actions.after_gap.Statement.{statement}
 use Rattle.bus.proofs.actions.after_gap.Tie as tie

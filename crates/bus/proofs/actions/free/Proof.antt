@@ -9,23 +9,17 @@ closed-requires c κs = search needs
 returns : tie.Need-returns
 returns c = simp (not-true (c .before .before .before .args .c .holder) (c .before .if1 .taken), c .closed .ensures)
 
-others-requires : tie.Need-others-requires
-others-requires c κs = search needs
+after-free-requires : tie.Need-after-free-requires
+after-free-requires c κs = search needs
 
-after-freeing-requires : tie.Need-after-freeing-requires
-after-freeing-requires c κs = search needs
-
-set-holder-requires : tie.Need-set-holder-requires
-set-holder-requires c κs = search needs
-
-set-mode-requires : tie.Need-set-mode-requires
-set-mode-requires c κs = search needs
+freed-requires : tie.Need-freed-requires
+freed-requires c κs = search needs
 
 quietly-requires : tie.Need-quietly-requires
 quietly-requires c κs = search needs
 
 returns-2 : tie.Need-returns-2
-returns-2 c = simp (not-false (c .before .before .before .before .before .before .before .args .c .holder) (c .before .before .before .before .before .if1 .left), c .before .before .before .before .others .ensures, c .before .before .before .after-freeing .ensures, c .before .before .set-holder .ensures, c .before .set-mode .ensures, c .quietly .ensures)
+returns-2 c = simp (not-false (c .before .before .before .before .before .args .c .holder) (c .before .before .before .if1 .left), c .before .before .after-free .ensures, c .before .freed .ensures, c .quietly .ensures)
 
 pub free-spec : {M : Type 1} → statement M
 free-spec =
@@ -33,9 +27,7 @@ free-spec =
     (tie.spec
     closed-requires
     returns
-    others-requires
-    after-freeing-requires
-    set-holder-requires
-    set-mode-requires
+    after-free-requires
+    freed-requires
     quietly-requires
     returns-2)

@@ -24,21 +24,18 @@ returns-2 : tie.Need-returns-2
 unfolding grant
 returns-2 c = simp (← c .before .before .before .before .is-granting .ensures, not-false (c .before .before .before .before .is-granting .result) (c .before .before .before .if1 .left), ← c .before .before .some .ensures, not-true (c .before .before .some .result) (c .before .if2 .taken), c .quietly .ensures)
 
-others-requires : tie.Need-others-requires
-others-requires c κs = search needs
+after-grant-requires : tie.Need-after-grant-requires
+after-grant-requires c κs = search needs
 
-after-granting-requires : tie.Need-after-granting-requires
-after-granting-requires c κs = search needs
-
-hold-requires : tie.Need-hold-requires
-hold-requires c κs = search needs
+take-grant-requires : tie.Need-take-grant-requires
+take-grant-requires c κs = search needs
 
 quietly-requires-2 : tie.Need-quietly-requires-2
 quietly-requires-2 c κs = search needs
 
 returns-3 : tie.Need-returns-3
 unfolding grant
-returns-3 c = simp (← c .before .before .before .before .before .before .before .is-granting .ensures, not-false (c .before .before .before .before .before .before .before .is-granting .result) (c .before .before .before .before .before .before .if1 .left), ← c .before .before .before .before .before .some .ensures, not-false (c .before .before .before .before .before .some .result) (c .before .before .before .before .if2 .left), c .before .before .before .others .ensures, c .before .before .after-granting .ensures, c .before .hold .ensures, c .quietly2 .ensures)
+returns-3 c = simp (← c .before .before .before .before .before .before .is-granting .ensures, not-false (c .before .before .before .before .before .before .is-granting .result) (c .before .before .before .before .before .if1 .left), ← c .before .before .before .before .some .ensures, not-false (c .before .before .before .before .some .result) (c .before .before .before .if2 .left), c .before .before .after-grant .ensures, c .before .take-grant .ensures, c .quietly2 .ensures)
 
 pub grant-spec : {M : Type 1} → statement M
 grant-spec =
@@ -50,8 +47,7 @@ grant-spec =
     some-requires
     quietly-requires
     returns-2
-    others-requires
-    after-granting-requires
-    hold-requires
+    after-grant-requires
+    take-grant-requires
     quietly-requires-2
     returns-3)

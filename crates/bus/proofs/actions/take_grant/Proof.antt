@@ -1,6 +1,6 @@
 use borrow.Author.Needs.{needs}
-use Rattle.bus.proofs.actions.hold.Statement.{statement}
-use Rattle.bus.proofs.actions.hold.Tie as tie
+use Rattle.bus.proofs.actions.take_grant.Statement.{statement}
+use Rattle.bus.proofs.actions.take_grant.Tie as tie
 
 granted-requires : tie.Need-granted-requires
 granted-requires c κs = search needs
@@ -17,7 +17,7 @@ set-mode-requires c κs = search needs
 returns : tie.Need-returns
 returns c = simp (c .before .before .before .granted .ensures, c .before .before .set-holder .ensures, c .before .set-pending .ensures, c .set-mode .ensures)
 
-pub hold-spec : {M : Type 1} → statement M
-hold-spec =
+pub take-grant-spec : {M : Type 1} → statement M
+take-grant-spec =
     tie.close
     (tie.spec granted-requires set-holder-requires set-pending-requires set-mode-requires returns)
