@@ -3,3 +3,4 @@ pub mod Turns
 pub mod Loop
 pub mod Pieces
 pub mod Whole
+pub mod Files

@@ -83,3 +83,7 @@ printedFrom (b ∷ l) p s i = blockPrinted b p s i (lookedAt p b (headOf b)) (pr
 -- the text of a file
 abbrev pub printed : List ℕ → List ℕ
 printed bytes = printedFrom (pieces bytes) none (fresh 0) 0
+
+-- the text of a list of actions, played on a fresh bus of n nodes; it is that of every file of the list (proofs/Files.antt)
+abbrev pub listPrinted : ℕ → List Action → List ℕ
+listPrinted n l = nodesLine n ++ playing l (fresh n) 0 (λ s i. doneLine i)
