@@ -1,15 +1,19 @@
-//! What is done with the model: run files made at random, the program `play` held against it,
-//! demand 3 watched, one transaction walked through whole, and figures taken.
+//! What is done with the model: run files and texts made at random, the programs `play`, `compose`
+//! and `list` held against it, sample runs checked, demand 3 watched, one transaction walked through
+//! whole, and figures taken.
 
 pub mod bench;
 pub mod child;
 pub mod compare;
+pub mod compare_text;
 pub mod driver;
 pub mod forward;
 pub mod fuzz;
 pub mod generate;
 pub mod random;
+pub mod samples;
 pub mod tally;
+pub mod texts;
 pub mod walk;
 pub mod watch;
 pub mod ways;

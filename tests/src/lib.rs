@@ -5,17 +5,19 @@
 //! - [`bus`]: signals, node modes, the reception charts, the ten actions, refusals 2 to 7 and 12;
 //! - [`runfile`]: blocks of 512 bytes, read and written;
 //! - [`transcript`]: the printed text;
-//! - [`player`]: a run file in, the printed text out.
+//! - [`player`]: a run file in, the printed text out;
+//! - [`notation`]: runs in plain words, a text to a run file and back.
 //!
-//! What is done with it, against the program `play`, stands in [`harness`].
+//! What is done with it, against the programs `play`, `compose` and `list`, stands in [`harness`].
 //!
-//! All forms of a run meet in [`bus::Record`]: `runfile` turns bytes into records and back, so a
-//! text form of runs is one more module beside it, and one more subcommand in `main`.
+//! All forms of a run meet in [`bus::Record`]: `runfile` turns bytes into records and back, and
+//! `notation` lines of text.
 
 #![forbid(unsafe_code)]
 
 pub mod bus;
 pub mod harness;
+pub mod notation;
 pub mod player;
 pub mod runfile;
 pub mod transcript;

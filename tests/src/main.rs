@@ -1,17 +1,23 @@
-//! `model`: the model written apart, and the trials that hold the program `play` against it.
+//! `model`: the model written apart, and the trials that hold the programs `play`, `compose` and
+//! `list` against it.
 
-use std::io::{self, BufWriter};
+use std::io::{self, BufReader, BufWriter};
 use std::path::PathBuf;
 use std::process::ExitCode;
 
-use bench_model::harness::{bench, compare, fuzz, generate, walk};
-use bench_model::player;
+use bench_model::harness::{bench, compare, compare_text, fuzz, generate, samples, walk};
+use bench_model::{notation, player};
 
 const USAGE: &str = "\
 model play                                        a run file in, the printed text out
+model compose                                     a run in plain words in, a run file out
+model list                                        a run file in, the run in plain words out
 model compare PLAY [--files N] [--seed S] [--only K]
                                                   made files, played by PLAY and by the model
 model fuzz PLAY [--files N] [--seed S]            bytes without a plan
+model compare-text COMPOSE LIST [--files N] [--seed S] [--only K]
+                                                  made texts and files, by both programs and by the model
+model runs DIR PLAY COMPOSE LIST                  the sample runs of a directory
 model walk [--n N]                                one transaction, every way it can go
 model generate mixed|broadcast|transaction [--n N] [--actions N] [--seed S]
                                                   a run file that plays to its end
@@ -36,6 +42,31 @@ fn command() -> Result<(), String> {
         "play" => {
             rest.end()?;
             play().map_err(|error| error.to_string())
+        }
+        "compose" => {
+            rest.end()?;
+            compose().map_err(|error| error.to_string())
+        }
+        "list" => {
+            rest.end()?;
+            list().map_err(|error| error.to_string())
+        }
+        "compare-text" => {
+            let files = rest.number("--files")?.unwrap_or(3000);
+            let seed = rest.number("--seed")?.unwrap_or(1);
+            let only = rest.number("--only")?;
+            let (compose, list) = (rest.path()?, rest.path()?);
+            rest.end()?;
+            let options =
+                compare_text::Options { compose: &compose, list: &list, files, seed, only };
+            print!("{}", compare_text::compare_text(&options)?);
+            Ok(())
+        }
+        "runs" => {
+            let directory = rest.path()?;
+            let (play, compose, list) = (rest.path()?, rest.path()?, rest.path()?);
+            rest.end()?;
+            samples::check(&directory, &samples::Programs { play, compose, list })
         }
         "compare" => {
             let files = rest.number("--files")?.unwrap_or(5000);
@@ -90,6 +121,22 @@ fn play() -> io::Result<()> {
     player::play_stream(&mut io::stdin().lock(), &mut io::stdout().lock())
 }
 
+/// A fault is one line on standard error; as with the programs, the exit status does not tell.
+fn compose() -> io::Result<()> {
+    let mut input = BufReader::with_capacity(1 << 18, io::stdin().lock());
+    let mut output = BufWriter::with_capacity(1 << 18, io::stdout().lock());
+    if let Err(complaint) = notation::compose_stream(&mut input, &mut output)? {
+        eprintln!("{complaint}");
+    }
+    Ok(())
+}
+
+fn list() -> io::Result<()> {
+    let mut input = BufReader::with_capacity(1 << 18, io::stdin().lock());
+    let mut output = BufWriter::with_capacity(1 << 18, io::stdout().lock());
+    notation::list_stream(&mut input, &mut output)
+}
+
 /// The words after the subcommand: options are taken out, what is left is taken in order.
 struct Arguments {
     words: Vec<String>,
@@ -135,8 +182,14 @@ impl Arguments {
 
     /// The path of a program, the last word there is.
     fn program(&mut self) -> Result<PathBuf, String> {
-        let path = PathBuf::from(self.next()?);
+        let path = self.path()?;
         self.end()?;
+        Ok(path)
+    }
+
+    /// The path of something that is there.
+    fn path(&mut self) -> Result<PathBuf, String> {
+        let path = PathBuf::from(self.next()?);
         // A bare name would be looked up elsewhere.
         path.canonicalize().map_err(|error| format!("{}: {error}", path.display()))
     }

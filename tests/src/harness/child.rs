@@ -1,4 +1,4 @@
-//! Runs a program on a run file, and says how it ended and what it printed.
+//! Runs a program on a run file or a text, and says how it ended and what it printed.
 
 use std::fs::{self, File};
 use std::io::{self, Read, Write};
@@ -20,6 +20,8 @@ pub enum Input<'a> {
 
 pub struct Ran {
     pub text: Vec<u8>,
+    /// What it wrote to standard error, or the first part of it.
+    pub errors: Vec<u8>,
     /// None: it had to be stopped.
     pub status: Option<ExitStatus>,
 }
@@ -27,7 +29,7 @@ pub struct Ran {
 /// Runs the program; reads at most `limit` bytes of what it prints.
 pub fn run(program: &Path, input: Input, limit: usize) -> io::Result<Ran> {
     let mut command = Command::new(program);
-    command.stdout(Stdio::piped());
+    command.stdout(Stdio::piped()).stderr(Stdio::piped());
     match input {
         Input::File(path) => command.stdin(File::open(path)?),
         Input::Pipe(..) => command.stdin(Stdio::piped()),
@@ -35,17 +37,22 @@ pub fn run(program: &Path, input: Input, limit: usize) -> io::Result<Ran> {
     let mut child = command.spawn()?;
     let stdin = child.stdin.take();
     let stdout = child.stdout.take();
+    let stderr = child.stderr.take();
     let child = Mutex::new(child);
     let stop = || child.lock().expect("no thread panics").kill();
     let mut text = Vec::new();
     let (ended, watch) = mpsc::channel::<()>();
-    let status = thread::scope(|scope| -> io::Result<Option<ExitStatus>> {
+    let (status, errors) = thread::scope(|scope| -> io::Result<(Option<ExitStatus>, Vec<u8>)> {
         if let (Some(mut stdin), Input::Pipe(bytes, piece)) = (stdin, input) {
             scope.spawn(move || {
                 // A program that refuses need not read on: an error here is none.
                 let _ = bytes.chunks(piece).try_for_each(|piece| stdin.write_all(piece));
             });
         }
+        let errors = scope.spawn(move || match stderr {
+            Some(stderr) => read_start(stderr),
+            None => Ok(Vec::new()),
+        });
         let watchdog = scope.spawn(move || {
             let late = watch.recv_timeout(PATIENCE) == Err(mpsc::RecvTimeoutError::Timeout);
             if late {
@@ -64,9 +71,18 @@ pub fn run(program: &Path, input: Input, limit: usize) -> io::Result<Ran> {
         let late = watchdog.join().expect("the watchdog does not panic");
         // Its output is at its end: so is the program, or soon.
         let status = wait(&child)?;
-        Ok(status.filter(|_| !late && !endless))
+        let errors = errors.join().expect("the reader does not panic")?;
+        Ok((status.filter(|_| !late && !endless), errors))
     })?;
-    Ok(Ran { text, status })
+    Ok(Ran { text, errors, status })
+}
+
+/// Reads to the end, and keeps the start.
+fn read_start(mut stream: impl Read) -> io::Result<Vec<u8>> {
+    let mut start = Vec::new();
+    stream.by_ref().take(65_536).read_to_end(&mut start)?;
+    io::copy(&mut stream, &mut io::sink())?;
+    Ok(start)
 }
 
 /// Waits for the end of a program that has closed its output, and stops it if that never comes.
@@ -94,7 +110,8 @@ pub fn difference(ran: &Ran, expected: &[u8]) -> Option<String> {
     match ran.status {
         None => return Some("it did not end, or printed without end, and was stopped".into()),
         Some(status) if !status.success() => {
-            return Some(format!("it ended with {status} and not with exit status 0"))
+            let errors = String::from_utf8_lossy(&ran.errors);
+            return Some(format!("it ended with {status} and not with exit status 0: {errors}"))
         }
         Some(_) if ran.text == expected => return None,
         Some(_) => (),

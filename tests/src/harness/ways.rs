@@ -195,7 +195,7 @@ impl Way {
 }
 
 /// n from 2 to 63, small ones often.
-fn nodes(random: &mut Random) -> u8 {
+pub(super) fn nodes(random: &mut Random) -> u8 {
     match random.below(10) {
         0..=1 => 2,
         2..=3 => 3,
@@ -213,7 +213,7 @@ fn run(random: &mut Random, n: u8, actions: usize) -> Vec<Record> {
     (0..actions).map(|_| driver.play().0.into()).collect()
 }
 
-fn file(n: u8, records: &[Record]) -> Vec<u8> {
+pub(super) fn file(n: u8, records: &[Record]) -> Vec<u8> {
     let mut file = vec![0; records.len().div_ceil(FULL) * BLOCK];
     for (place, part) in records.chunks(FULL).enumerate() {
         runfile::write_unchecked(block(&mut file, place), place as u32, n, part);
@@ -244,7 +244,7 @@ fn wrong_record(random: &mut Random, number: u8, make: impl Fn(&mut Random, u8) 
 }
 
 /// A record whose fields are right for its kind; open or not.
-fn right_record(random: &mut Random, n: u8, kind: u8) -> Record {
+pub(super) fn right_record(random: &mut Random, n: u8, kind: u8) -> Record {
     let node = random.below(n.into()) as u8;
     let other = random.below(n.into()) as u8;
     let address = random.pick(&[other, other, ALL_NODES]);
@@ -304,12 +304,12 @@ fn spoil_named(random: &mut Random, n: u8, record: &mut Record) {
     }
 }
 
-fn too_high(random: &mut Random, n: u8) -> u8 {
+pub(super) fn too_high(random: &mut Random, n: u8) -> u8 {
     let any = random.byte(n, 255);
     random.pick(&[n, n, 63, 64, 255, any])
 }
 
-fn no_address(random: &mut Random, n: u8) -> u8 {
+pub(super) fn no_address(random: &mut Random, n: u8) -> u8 {
     let any = random.byte(n, 255);
     loop {
         let address = random.pick(&[n, n, 62, 64, 255, any]);
