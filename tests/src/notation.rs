@@ -408,3 +408,24 @@ pub fn list(file: &[u8]) -> Vec<u8> {
     list_stream(&mut &file[..], &mut text).expect("memory can be written");
     text
 }
+
+#[cfg(test)]
+mod tests {
+    use super::*;
+
+    /// "none follows 4,294,967,295": the last block there can be, and one action more.
+    #[test]
+    fn too_many_actions() {
+        let last = || Composer { n: Some(2), number: Some(u32::MAX), under_way: Vec::new() };
+        let mut file = Vec::new();
+        let mut composer = last();
+        assert_eq!(composer.line(b"pass * 31", &mut file).unwrap(), Ok(()));
+        assert_eq!(composer.end(&mut file).unwrap(), Ok(()));
+        assert_eq!(file.len(), BLOCK);
+        let mut composer = last();
+        let answer = composer.line(b"pass * 32", &mut file).unwrap();
+        assert_eq!(answer, Err(Fault::TooManyActions));
+        assert_eq!(file.len(), 2 * BLOCK);
+        assert_eq!(answer.unwrap_err().to_string(), "too many actions");
+    }
+}

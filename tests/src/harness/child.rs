@@ -111,7 +111,7 @@ pub fn difference(ran: &Ran, expected: &[u8]) -> Option<String> {
         None => return Some("it did not end, or printed without end, and was stopped".into()),
         Some(status) if !status.success() => {
             let errors = String::from_utf8_lossy(&ran.errors);
-            return Some(format!("it ended with {status} and not with exit status 0: {errors}"))
+            return Some(format!("it ended with {status} and not with exit status 0: {errors}"));
         }
         Some(_) if ran.text == expected => return None,
         Some(_) => (),

@@ -49,8 +49,20 @@ const FAULTS: [Fault; 14] = [
 ];
 
 const WORDS: [&str; 14] = [
-    "nodes", "request", "arbitrate", "respond", "clock", "pass", "lose", "change", "grant", "gap",
-    "reset", "all", "hold", "*",
+    "nodes",
+    "request",
+    "arbitrate",
+    "respond",
+    "clock",
+    "pass",
+    "lose",
+    "change",
+    "grant",
+    "gap",
+    "reset",
+    "all",
+    "hold",
+    "*",
 ];
 
 const STYLES: [&str; 16] = [
@@ -259,7 +271,9 @@ fn enter(text: &[u8], file: &[u8], ended: Result<(), Complaint>, tally: &mut Tal
         Err(complaint) => {
             let at_end = matches!(complaint.fault, Fault::NoAction)
                 || complaint.fault == Fault::NoNodesLine
-                    && lines.iter().all(|line| notation::read_line(line) == Ok(notation::Line::Blank));
+                    && lines
+                        .iter()
+                        .all(|line| notation::read_line(line) == Ok(notation::Line::Blank));
             style(complaint.line == 1 && !at_end, 10);
             style(!file.is_empty(), 11);
             style(at_end, 13);
@@ -282,7 +296,10 @@ fn enter(text: &[u8], file: &[u8], ended: Result<(), Complaint>, tally: &mut Tal
             Ok(notation::Line::Acts(record, times)) => {
                 let over = actions % 31 + u64::from(times) > 31;
                 style(times > 1 && over, 14);
-                style(times > 1 && record.kind == 7 && notation::words(line).nth(1) == Some(b"*"), 15);
+                style(
+                    times > 1 && record.kind == 7 && notation::words(line).nth(1) == Some(b"*"),
+                    15,
+                );
                 actions += u64::from(times);
             }
             _ => (),

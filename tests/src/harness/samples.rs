@@ -37,7 +37,12 @@ pub fn read(directory: &Path) -> Result<Vec<Sample>, String> {
             let path = directory.join(format!("{name}.{ending}"));
             fs::read(&path).map_err(|error| fail(&path, error))
         };
-        Ok(Sample { text: part("txt")?, run: part("run")?, printed: part("out")?, name: name.clone() })
+        Ok(Sample {
+            text: part("txt")?,
+            run: part("run")?,
+            printed: part("out")?,
+            name: name.clone(),
+        })
     };
     names.into_iter().map(one).collect()
 }

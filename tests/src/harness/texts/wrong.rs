@@ -1,0 +1,317 @@
+//! Texts with one wrong line, and texts that end too early.
+
+use super::spelling::{
+    any_word, blank_line, no_number, spell_number, too_large, unknown_word, Slot, Word,
+};
+use super::{Expected, TextCase, Writer};
+use crate::bus::Record;
+use crate::harness::random::Random;
+use crate::harness::ways;
+use crate::notation::{Complaint, Fault, LONGEST_LINE};
+
+/// A line with something wrong in it.
+#[derive(Clone, Copy, PartialEq, Eq, Debug)]
+pub enum Wrong {
+    Long(usize),
+    UnknownWord,
+    /// Of the action of this kind; 0 is the `nodes` line.
+    Missing(u8),
+    NotANumber(u8),
+    TooLarge(u8),
+    Extra(u8),
+    RepeatWithoutCount,
+    RepeatNotANumber,
+    RepeatTooLarge,
+    RepeatOfZero,
+    ActionBeforeNodes,
+    SecondNodes,
+    /// n refused by number 1.
+    Nodes(u8),
+    /// Refused by number 4, 5, 6.
+    Node(u8),
+    Address(u8),
+    Ack(u8),
+}
+
+impl Wrong {
+    pub fn all() -> Vec<Wrong> {
+        let mut all = vec![Wrong::UnknownWord, Wrong::UnknownWord, Wrong::UnknownWord];
+        all.extend([256, 257, 258, 511, 512, 513, 5000, 70_000].map(Wrong::Long));
+        // Kinds with fields; `change` has none that can be missing.
+        all.extend([0, 1, 2, 3, 4].map(Wrong::Missing));
+        all.extend([0, 1, 2, 3, 4, 7].map(Wrong::NotANumber));
+        all.extend([0, 1, 2, 3, 4, 7].map(Wrong::TooLarge));
+        all.extend([0, 1, 2, 3, 4, 5, 6, 7, 8, 9, 10].map(Wrong::Extra));
+        all.extend([
+            Wrong::RepeatWithoutCount,
+            Wrong::RepeatNotANumber,
+            Wrong::RepeatTooLarge,
+            Wrong::RepeatOfZero,
+            Wrong::ActionBeforeNodes,
+            Wrong::SecondNodes,
+        ]);
+        all.extend([0, 1, 64, 65, 128, 255].map(Wrong::Nodes));
+        all.extend([1, 2, 3, 4].map(Wrong::Node));
+        all.extend([1, 7].map(Wrong::Address));
+        all.extend([16, 17, 255].map(Wrong::Ack));
+        all
+    }
+}
+
+/// A text that ends too early.
+#[derive(Clone, Copy, PartialEq, Eq, Debug)]
+pub enum End {
+    Empty,
+    BlankAlone,
+    NodesAlone,
+}
+
+/// How many actions stand before the wrong line: around the ends of blocks often.
+pub fn before(random: &mut Random) -> usize {
+    let any = random.below(150) as usize;
+    random.pick(&[0, 0, 1, 2, 29, 30, 31, 32, 61, 62, 63, 93, any, any])
+}
+
+/// Any words after the first fault of a line: they do not count.
+fn spoil_rest(random: &mut Random, words: &mut Vec<Word>, from: usize) {
+    if !random.percent(40) {
+        return;
+    }
+    words.truncate(from);
+    for _ in 0..random.below(4) {
+        words.push(any_word(random));
+    }
+}
+
+/// A text with this line in it.
+pub fn wrong_line(random: &mut Random, wrong: Wrong) -> TextCase {
+    let count = before(random);
+    let mut writer = Writer::new(random);
+    // A fault of the first line that is not blank.
+    let first = match wrong {
+        Wrong::ActionBeforeNodes | Wrong::Nodes(_) => true,
+        Wrong::Missing(0) | Wrong::NotANumber(0) | Wrong::TooLarge(0) | Wrong::Extra(0) => {
+            writer.random.percent(70)
+        }
+        // A line's own fault is looked at before its place.
+        Wrong::SecondNodes | Wrong::Node(_) | Wrong::Address(_) | Wrong::Ack(_) => false,
+        _ => writer.random.percent(10),
+    };
+    match first {
+        true => writer.blanks(),
+        false => {
+            writer.nodes();
+            writer.actions(count);
+        }
+    }
+    if let Wrong::Long(length) = wrong {
+        let line = long_line(&mut writer, length);
+        writer.put(&line);
+        return writer.faulty(Fault::LongLine);
+    }
+    let (words, fault) = loop {
+        let (words, fault) = wrong_words(&mut writer, wrong);
+        if words.join(&b' ').len() <= LONGEST_LINE {
+            break (words, fault);
+        }
+    };
+    writer.words(&words);
+    writer.faulty(fault)
+}
+
+fn long_line(writer: &mut Writer, length: usize) -> Vec<u8> {
+    let mut line = match writer.random.below(5) {
+        0 => b"#".to_vec(),
+        1 => b"pass".to_vec(),
+        2 => b"unknown".to_vec(),
+        3 => b"clock 0 # ".to_vec(),
+        _ => Vec::new(),
+    };
+    let fill = writer.random.pick(b" \t\r#x0");
+    line.resize(length, fill);
+    line
+}
+
+/// The words of a right line of this kind, 0 for `nodes`, each with what it stands for.
+fn right_words(writer: &mut Writer, kind: u8) -> Vec<(Slot, Word)> {
+    if kind == 0 {
+        let n = writer.random.byte(2, 63);
+        return vec![(Slot::Name, b"nodes".to_vec()), (Slot::Byte, writer.number(n.into()))];
+    }
+    let mut record = ways::right_record(writer.random, writer.n, kind);
+    // `change` with its address.
+    if kind == 7 {
+        record.address = 1;
+    }
+    writer.spell(record)
+}
+
+fn bare(words: Vec<(Slot, Word)>) -> Vec<Word> {
+    words.into_iter().map(|(_, word)| word).collect()
+}
+
+/// The places of the fields that have to be there: not the name, not `hold`.
+fn places(words: &[(Slot, Word)]) -> Vec<usize> {
+    let is_field = |place: &usize| !matches!(words[*place].0, Slot::Name | Slot::Hold);
+    (0..words.len()).filter(is_field).collect()
+}
+
+fn wrong_words(writer: &mut Writer, wrong: Wrong) -> (Vec<Word>, Fault) {
+    match wrong {
+        Wrong::Long(_) => unreachable!("not made of words"),
+        Wrong::UnknownWord => {
+            let mut words = vec![unknown_word(writer.random)];
+            spoil_rest(writer.random, &mut words, 1);
+            (words, Fault::UnknownWord)
+        }
+        Wrong::Missing(kind) => {
+            let words = right_words(writer, kind);
+            let first_missing = writer.random.pick(&places(&words));
+            let mut words = bare(words);
+            words.truncate(first_missing);
+            (words, Fault::MissingField)
+        }
+        Wrong::NotANumber(kind) => (not_a_number(writer, kind), Fault::NotANumber),
+        Wrong::TooLarge(kind) => {
+            let words = right_words(writer, kind);
+            let place = writer.random.pick(&places(&words));
+            let slot = words[place].0;
+            let mut words = bare(words);
+            words[place] = too_large(writer.random, slot);
+            spoil_rest(writer.random, &mut words, place + 1);
+            (words, Fault::TooLarge)
+        }
+        Wrong::Extra(kind) => (extra(writer, kind), Fault::ExtraField),
+        Wrong::RepeatWithoutCount => (repeat(writer, None), Fault::MissingField),
+        Wrong::RepeatNotANumber => {
+            let count = no_number(writer.random);
+            (repeat(writer, Some(count)), Fault::NotANumber)
+        }
+        Wrong::RepeatTooLarge => {
+            let count = too_large(writer.random, Slot::Word);
+            (repeat(writer, Some(count)), Fault::TooLarge)
+        }
+        Wrong::RepeatOfZero => {
+            let count = spell_number(writer.random, 0);
+            (repeat(writer, Some(count)), Fault::RepeatOfZero)
+        }
+        Wrong::ActionBeforeNodes => {
+            let kind = writer.random.byte(1, 10);
+            (bare(right_words(writer, kind)), Fault::NoNodesLine)
+        }
+        Wrong::SecondNodes => {
+            let any = writer.random.byte(0, 255);
+            let n = writer.random.pick(&[writer.n, any]);
+            (vec![b"nodes".to_vec(), writer.number(n.into())], Fault::NodesAgain)
+        }
+        Wrong::Nodes(n) => (vec![b"nodes".to_vec(), writer.number(n.into())], Fault::Refused(1)),
+        Wrong::Node(kind) => (node_too_high(writer, kind), Fault::Refused(4)),
+        Wrong::Address(kind) => {
+            let mut record = ways::right_record(writer.random, writer.n, kind);
+            record.address = ways::no_address(writer.random, writer.n);
+            (refused(writer, record), Fault::Refused(5))
+        }
+        Wrong::Ack(ack) => {
+            let record = ways::right_record(writer.random, writer.n, 3);
+            (refused(writer, Record { ack, ..record }), Fault::Refused(6))
+        }
+    }
+}
+
+fn not_a_number(writer: &mut Writer, kind: u8) -> Vec<Word> {
+    let words = right_words(writer, kind);
+    let place = writer.random.pick(&places(&words));
+    let slot = words[place].0;
+    let mut words = bare(words);
+    words[place] = no_number(writer.random);
+    // `change * ..` is a repeat.
+    if kind == 7 && words[place] == b"*" {
+        words[place] = b"change".to_vec();
+    }
+    // Only an address can be `all`.
+    if slot != Slot::Address && writer.random.percent(20) {
+        words[place] = b"all".to_vec();
+    }
+    spoil_rest(writer.random, &mut words, place + 1);
+    words
+}
+
+/// A word more than the line takes, after its fields or after its repeat.
+fn extra(writer: &mut Writer, kind: u8) -> Vec<Word> {
+    let mut words = bare(right_words(writer, kind));
+    let may_hold = kind == 3 && words.len() == 3;
+    let may_repeat = kind != 0;
+    if may_repeat && writer.random.percent(40) {
+        words.extend([b"*".to_vec(), b"2".to_vec(), any_word(writer.random)]);
+    } else {
+        let mut word = any_word(writer.random);
+        while may_repeat && word == b"*" || may_hold && word == b"hold" {
+            word = any_word(writer.random);
+        }
+        words.push(word);
+    }
+    let length = words.len();
+    spoil_rest(writer.random, &mut words, length);
+    words
+}
+
+/// A right action with `*` and this in the place of the count.
+fn repeat(writer: &mut Writer, count: Option<Word>) -> Vec<Word> {
+    let kind = writer.random.byte(1, 10);
+    let mut words = bare(right_words(writer, kind));
+    words.push(b"*".to_vec());
+    if let Some(count) = count {
+        words.push(count);
+        let length = words.len();
+        spoil_rest(writer.random, &mut words, length);
+    }
+    words
+}
+
+fn node_too_high(writer: &mut Writer, kind: u8) -> Vec<Word> {
+    let mut record = ways::right_record(writer.random, writer.n, kind);
+    record.node = ways::too_high(writer.random, writer.n);
+    // The numbers after 4 too, now and then.
+    if writer.random.percent(30) {
+        match kind {
+            1 => record.address = ways::no_address(writer.random, writer.n),
+            3 => record.ack = writer.random.byte(16, 255),
+            _ => (),
+        }
+    }
+    refused(writer, record)
+}
+
+/// The words of an action that the writer refuses, now and then repeated.
+fn refused(writer: &mut Writer, record: Record) -> Vec<Word> {
+    let mut words = bare(writer.spell(record));
+    if writer.random.percent(25) {
+        words.extend([b"*".to_vec(), b"100".to_vec()]);
+    }
+    words
+}
+
+/// A text that ends too early.
+pub fn wrong_end(random: &mut Random, end: End) -> TextCase {
+    let mut writer = Writer::new(random);
+    let fault = match end {
+        End::Empty => Fault::NoNodesLine,
+        End::BlankAlone => {
+            for _ in 0..writer.random.between(1, 5) {
+                let line = blank_line(writer.random);
+                writer.put(&line);
+            }
+            Fault::NoNodesLine
+        }
+        End::NodesAlone => {
+            writer.nodes();
+            for _ in 0..writer.random.below(3) {
+                let line = blank_line(writer.random);
+                writer.put(&line);
+            }
+            Fault::NoAction
+        }
+    };
+    let fault = Some(Complaint { line: writer.lines, fault });
+    TextCase { text: writer.text(), expected: Some(Expected { file: Vec::new(), fault }) }
+}

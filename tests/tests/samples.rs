@@ -1,0 +1,37 @@
+//! The sample runs in runs/: the model composes, plays and lists each as it stands there.
+
+use std::path::Path;
+
+use bench_model::harness::samples;
+use bench_model::{notation, player};
+
+#[test]
+fn samples_as_they_stand() {
+    let directory = Path::new(env!("CARGO_MANIFEST_DIR")).join("../runs");
+    let samples = samples::read(&directory).expect("every sample is there three times");
+    let names: Vec<&str> = samples.iter().map(|sample| sample.name.as_str()).collect();
+    let expected = [
+        "case-a",
+        "case-b",
+        "case-c",
+        "case-d",
+        "case-e",
+        "case-f1",
+        "case-f2",
+        "concatenated-response",
+        "fairness-interval",
+        "lost-ack",
+        "misled-node",
+        "transaction",
+    ];
+    for name in expected {
+        assert!(names.contains(&name), "{name} is missing");
+    }
+    for sample in &samples {
+        let name = &sample.name;
+        assert_eq!(notation::compose(&sample.text), (sample.run.clone(), Ok(())), "{name}");
+        assert!(player::play_file(&sample.run) == sample.printed, "{name}.out");
+        let listed = notation::list(&sample.run);
+        assert_eq!(notation::compose(&listed), (sample.run.clone(), Ok(())), "{name}, listed");
+    }
+}
