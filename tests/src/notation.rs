@@ -210,7 +210,7 @@ impl<'a> Fields<'a> {
 /// large its digits are.
 fn number(word: &[u8]) -> Result<u32, Fault> {
     let (digits, base) = match word {
-        [b'0', b'x' | b'X', digits @ ..] => (digits, 16),
+        [b'0', b'x', digits @ ..] => (digits, 16),
         _ => (word, 10),
     };
     let values: Option<Vec<u32>> =

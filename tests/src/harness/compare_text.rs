@@ -72,7 +72,7 @@ const STYLES: [&str; 16] = [
     "a blank line",
     "a line of 255 bytes",
     "a number with 0x",
-    "a number with 0X",
+    "a number with capital digits",
     "no newline at the end",
     "an empty text",
     "a text that composes",
@@ -306,7 +306,7 @@ fn enter(text: &[u8], file: &[u8], ended: Result<(), Complaint>, tally: &mut Tal
         }
         for word in notation::words(line) {
             style(word.starts_with(b"0x"), 5);
-            style(word.starts_with(b"0X"), 6);
+            style(word.starts_with(b"0x") && word.iter().any(u8::is_ascii_uppercase), 6);
             found.extend(WORDS.iter().filter(|known| known.as_bytes() == word).copied());
         }
     }

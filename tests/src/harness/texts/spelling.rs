@@ -39,12 +39,10 @@ pub fn spell_number(random: &mut Random, value: u64) -> Word {
         _ => 0,
     };
     let zeros = "0".repeat(zeros as usize);
-    let digits = match random.below(8) {
+    let digits = match random.below(6) {
         0 => format!("0x{zeros}{value:x}"),
         1 => format!("0x{zeros}{value:X}"),
-        2 => format!("0X{zeros}{value:x}"),
-        3 => format!("0X{zeros}{value:X}"),
-        4 => {
+        2 => {
             let digits = format!("{value:x}");
             let mixed = digits.chars().map(|digit| match random.percent(50) {
                 true => digit.to_ascii_uppercase(),
@@ -138,7 +136,7 @@ pub fn unknown_word(random: &mut Random) -> Word {
 
 /// A word that is no number, and not `all`.
 pub fn no_number(random: &mut Random) -> Word {
-    let words = b"x 0x 0X 0xg 0x1g 1a a ff -1 +1 1.0 1, 1h hold * ALL All all1 0x0x1 00x1 \
+    let words = b"x 0x 0X 0X1 0xg 0x1g 1a a ff -1 +1 1.0 1, 1h hold * ALL All all1 0x0x1 00x1 \
         99999999999999999999z 0b1 1_000 x1 $1 \0 1\0 \xb9 / : 0x@ 0x`";
     pick_word(random, words)
 }
@@ -177,7 +175,7 @@ pub fn too_large(random: &mut Random, slot: Slot) -> Word {
     };
     let mut digits = match random.below(4) {
         0 => format!("0x{value:x}"),
-        1 => format!("0X{value:X}"),
+        1 => format!("0x{value:X}"),
         _ => value.to_string(),
     };
     if random.percent(20) {

@@ -1,0 +1,20 @@
+use mathlib.Core.Path.{sym}
+use lib.Seq.{length-take-le}
+use borrow.Author.Needs.{needs}
+use Rattle.compose.proofs.end_line.Statement.{statement}
+use Rattle.compose.proofs.end_line.Tie as tie
+
+slice-aggregate-feed : tie.Need-slice-aggregate-feed
+slice-aggregate-feed c = sym (length-take-le _ _ (search needs))
+
+feed-requires : tie.Need-feed-requires
+feed-requires c κs = search needs
+
+settle-requires : tie.Need-settle-requires
+settle-requires c κs = search needs
+
+returns : tie.Need-returns
+returns c = search needs
+
+pub end-line-spec : {M : Type 1} → statement M
+end-line-spec = tie.close (tie.spec slice-aggregate-feed feed-requires settle-requires returns)

@@ -1,0 +1,7 @@
+pub mod WordLaws
+pub mod PrintLaws
+pub mod Spaced
+pub mod Figures
+pub mod Actions
+pub mod ComposerLaws
+pub mod Texts

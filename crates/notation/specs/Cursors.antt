@@ -1,0 +1,19 @@
+-- A cursor in a line: the words from there on.
+use mathlib.Core.Path.{_≡_}
+use mathlib.Core.Bool.{false}
+use mathlib.Core.List.{List, [], _∷_}
+use Prim.Native.Nat.{ℕ, _<_}
+use lib.ListN.{length, drop, getD}
+use Rattle.notation.specs.declared.words.Token.{Token}
+use Rattle.notation.specs.declared.words.Step.{Step}
+use Rattle.notation.specs.declared.words.Step.the-variants.{End, Read}
+use Rattle.notation.specs.Words.{isBlank, tokensOf}
+
+-- the words from a place on
+abbrev pub tokensLeft : List ℕ → ℕ → List Token
+tokensLeft line at = tokensOf (drop at line)
+
+-- the words that a step found and left
+abbrev pub stepped : List ℕ → Step → List Token
+stepped line End = []
+stepped line (Read t c) = t ∷ tokensLeft line (c .at)

@@ -1,0 +1,163 @@
+-- One line of a run in plain words: its productions, over the words of the line.
+use mathlib.Core.Bool.{Bool, true, false, cond}
+use mathlib.Core.List.{List, [], _∷_}
+use Prim.Native.Nat.{ℕ, _≤_}
+use lib.Dec.{eqb, ltb, leb}
+use lib.ListN.{length}
+use Rattle.charts.specs.declared.Action.{Action}
+use Rattle.charts.specs.Records.{isKind}
+use Rattle.charts.specs.Signals.{everybody}
+use Rattle.notation.specs.declared.words.Token.{Token}
+use Rattle.notation.specs.declared.words.Token.the-variants.{Word, Number, Large}
+use Rattle.notation.specs.declared.grammar.Field.{Field}
+use Rattle.notation.specs.declared.grammar.Field.the-variants as F
+use Rattle.notation.specs.declared.Fault.{Fault}
+use Rattle.notation.specs.declared.Fault.the-variants.{UnknownWord, NotNumber, TooLarge, MissingField, ExtraField, NoRepeat, LongLine}
+use Rattle.notation.specs.declared.Line.{Line}
+use Rattle.notation.specs.declared.Line.the-variants.{Blank, Nodes, Acts, Wrong}
+use Rattle.notation.specs.Words as W
+use Rattle.notation.specs.Cursors.{tokensLeft}
+
+-- what a production for a field gives: a value and the words after it, or what is wrong
+pub data Part : Type 0 where
+  got : ℕ → List Token → Part
+  bad : Fault → Part
+
+abbrev pub after : Part → (ℕ → List Token → Line) → Line
+after (got x l) next = next x l
+after (bad f) next = Wrong f
+
+-- the code's answer for a field in a line
+abbrev pub seen : List ℕ → Field → Part
+seen line (F.Is x c) = got x (tokensLeft line (c .at))
+seen line (F.Bad f) = bad f
+
+abbrev pub faultOf : Field → Fault
+faultOf (F.Is x c) = MissingField
+faultOf (F.Bad f) = f
+
+abbrev pub fieldFits : ℕ → Field → Type 0
+fieldFits most (F.Is x c) = x ≤ most
+fieldFits most (F.Bad f) = Unit
+
+abbrev pub isWord : ℕ → Token → Bool
+isWord k (Word j) = eqb j k
+isWord k (Number x) = false
+isWord k Large = false
+
+-- a number of at most `most`: "a number too large", "a missing […] field"
+abbrev pub byte : ℕ
+byte = 255
+
+abbrev pub long : ℕ
+long = 4294967295
+
+abbrev pub numeral : ℕ → Token → List Token → Part
+numeral most (Word k) l = bad NotNumber
+numeral most (Number x) l = cond (leb x most) (got x l) (bad TooLarge)
+numeral most Large l = bad TooLarge
+
+unfoldable pub numberIn : ℕ → List Token → Part
+numberIn most [] = bad MissingField
+numberIn most (t ∷ l) = numeral most t l
+
+-- "address or `all`": "Address 63 means all nodes"
+abbrev pub addressAt : Token → List Token → Part
+addressAt t l = cond (isWord W.all t) (got everybody l) (numeral byte t l)
+
+unfoldable pub addressIn : List Token → Part
+addressIn [] = bad MissingField
+addressIn (t ∷ l) = addressAt t l
+
+-- "`change 2` / `change`": without an address it is 0
+unfoldable pub addressOrNone : List Token → Part
+addressOrNone [] = got 0 []
+addressOrNone (t ∷ l) = cond (isWord W.times t) (got 0 (t ∷ l)) (addressAt t l)
+
+-- "`respond 1 1 hold` / `respond 1 1`": hold is 1 or 0
+unfoldable pub holdIn : List Token → Part
+holdIn [] = got 0 []
+holdIn (t ∷ l) = cond (isWord W.hold t) (got 1 l) (got 0 (t ∷ l))
+
+-- the end of a line
+unfoldable pub lastOf : Line → List Token → Line
+lastOf r [] = r
+lastOf r (t ∷ l) = Wrong ExtraField
+
+-- "`pass * 6` repeats a line"; a repeat of 0 is none
+abbrev pub timesOf : Action → ℕ → List Token → Line
+timesOf a k l = cond (eqb k 0) (Wrong NoRepeat) (lastOf (Acts a k) l)
+
+unfoldable pub repeatOf : Action → List Token → Line
+repeatOf a l = after (numberIn long l) (timesOf a)
+
+unfoldable pub endingOf : Action → List Token → Line
+endingOf a [] = Acts a 1
+endingOf a (t ∷ l) = cond (isWord W.times t) (repeatOf a l) (Wrong ExtraField)
+
+-- an action record: "Fields that a kind doesn't name are 0"
+abbrev pub recordOf : ℕ → ℕ → ℕ → ℕ → ℕ → ℕ → ℕ → Action
+recordOf kind node address ack hold header datum =
+    record { kind = kind; node = node; address = address; ack = ack; hold = hold; byte5 = 0; byte6 = 0; byte7 = 0; header = header; datum = datum }
+
+-- "`request 0 1 5 6` (node, address or `all`, header, data)"
+unfoldable pub requestOf : List Token → Line
+requestOf l =
+    after (numberIn byte l) λ node l1.
+    after (addressIn l1) λ address l2.
+    after (numberIn long l2) λ header l3.
+    after (numberIn long l3) λ datum l4.
+    endingOf (recordOf 1 node address 0 0 header datum) l4
+
+-- "`arbitrate 0`", "`clock 0`"
+unfoldable pub nodeOf : ℕ → List Token → Line
+nodeOf kind l =
+    after (numberIn byte l) λ node l1.
+    endingOf (recordOf kind node 0 0 0 0 0) l1
+
+-- "`respond 1 1 hold` / `respond 1 1`": node, acknowledgement, hold
+unfoldable pub respondOf : List Token → Line
+respondOf l =
+    after (numberIn byte l) λ node l1.
+    after (numberIn byte l1) λ ack l2.
+    after (holdIn l2) λ hold l3.
+    endingOf (recordOf 3 node 0 ack hold 0 0) l3
+
+-- "`change 2` / `change`"
+unfoldable pub changeOf : List Token → Line
+changeOf l =
+    after (addressOrNone l) λ address l1.
+    endingOf (recordOf 7 0 address 0 0 0 0) l1
+
+-- an action's line after its first word; "`pass`, `lose`, […] `grant`, `gap`, `reset`" have no field
+unfoldable pub actionOf : ℕ → List Token → Line
+actionOf kind l =
+    cond (eqb kind 1) (requestOf l)
+    (cond (eqb kind 2) (nodeOf 2 l)
+    (cond (eqb kind 3) (respondOf l)
+    (cond (eqb kind 4) (nodeOf 4 l)
+    (cond (eqb kind 7) (changeOf l)
+    (endingOf (recordOf kind 0 0 0 0 0 0) l)))))
+
+-- "`nodes 3` first"
+abbrev pub nodesThen : ℕ → List Token → Line
+nodesThen n l = lastOf (Nodes n) l
+
+unfoldable pub nodesOf : List Token → Line
+nodesOf l = after (numberIn byte l) nodesThen
+
+unfoldable pub namedOf : ℕ → List Token → Line
+namedOf k l = cond (isKind k) (actionOf k l) (cond (eqb k W.nodes) (nodesOf l) (Wrong UnknownWord))
+
+abbrev pub beginsWith : Token → List Token → Line
+beginsWith (Word k) l = namedOf k l
+beginsWith (Number x) l = Wrong UnknownWord
+beginsWith Large l = Wrong UnknownWord
+
+unfoldable pub saidBy : List Token → Line
+saidBy [] = Blank
+saidBy (t ∷ l) = beginsWith t l
+
+-- a line "of at most 255 bytes"
+unfoldable pub lineOf : List ℕ → Line
+lineOf line = cond (ltb 255 (length line)) (Wrong LongLine) (saidBy (W.tokensOf line))

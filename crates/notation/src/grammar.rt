@@ -1,0 +1,322 @@
+// The productions of a line. Each reads on from a cursor.
+ghost use mathlib.Core.Path.{_≡_};
+ghost use Prim.Native.Nat.{_≤_};
+ghost use Rattle.charts.specs.Records.{isKind};
+ghost use Rattle.notation.specs.Words.{tokensOf};
+ghost use Rattle.notation.specs.Cursors.{tokensLeft};
+ghost use Rattle.notation.specs.Grammar.{seen, faultOf, fieldFits, isWord, numeral, numberIn, addressAt, addressIn, addressOrNone, holdIn};
+ghost use Rattle.notation.specs.Grammar.{lastOf, repeatOf, endingOf, recordOf, requestOf, nodeOf, respondOf, changeOf, actionOf, nodesOf, namedOf, saidBy};
+use crate::Fault;
+use crate::Line;
+use crate::words;
+use crate::words::Cursor;
+use crate::words::Step;
+use crate::words::Token;
+use charts::Action;
+
+const BYTE: u32 = 255;
+
+const LONG: u32 = 4294967295;
+
+const EVERYBODY: u32 = 63;
+
+// A field of a line: its value and the place after it, or what is wrong.
+pub(crate) enum Field {
+    Is(u32, Cursor),
+    Bad(Fault),
+}
+
+fn is_word(t: Token, k: u8) -> bool
+    ensures { λ r. ⌜ r ≡ isWord k t ⌝ }
+{
+    match t {
+        Token::Word(j) => j == k,
+        Token::Number(_) => false,
+        Token::Large => false,
+    }
+}
+
+// A word as a number of at most `most`.
+fn as_number(line: &[u8], most: u32, t: Token, c: Cursor) -> Field
+    ensures { λ r. ⌜ seen (now (line .entry)) r ≡ numeral most t (tokensLeft (now (line .entry)) (c .at)) ⌝ }
+    ensures { λ r. ⌜ fieldFits most r ⌝ }
+{
+    match t {
+        Token::Word(_) => Field::Bad(Fault::NotNumber),
+        Token::Number(x) => {
+            if x <= most {
+                Field::Is(x, c)
+            } else {
+                Field::Bad(Fault::TooLarge)
+            }
+        }
+        Token::Large => Field::Bad(Fault::TooLarge),
+    }
+}
+
+fn number(line: &[u8], most: u32, c: Cursor) -> Field
+    ensures { λ r. ⌜ seen (now (line .entry)) r ≡ numberIn most (tokensLeft (now (line .entry)) (c .at)) ⌝ }
+    ensures { λ r. ⌜ fieldFits most r ⌝ }
+{
+    let step = words::next_word(line, c);
+    match step {
+        Step::End => Field::Bad(Fault::MissingField),
+        Step::Read(t, next) => as_number(line, most, t, next),
+    }
+}
+
+// A word as an address.
+fn as_address(line: &[u8], t: Token, c: Cursor) -> Field
+    ensures { λ r. ⌜ seen (now (line .entry)) r ≡ addressAt t (tokensLeft (now (line .entry)) (c .at)) ⌝ }
+    ensures { λ r. ⌜ fieldFits 255 r ⌝ }
+{
+    if is_word(t, words::ALL) {
+        return Field::Is(EVERYBODY, c);
+    }
+    as_number(line, BYTE, t, c)
+}
+
+fn address(line: &[u8], c: Cursor) -> Field
+    ensures { λ r. ⌜ seen (now (line .entry)) r ≡ addressIn (tokensLeft (now (line .entry)) (c .at)) ⌝ }
+    ensures { λ r. ⌜ fieldFits 255 r ⌝ }
+{
+    let step = words::next_word(line, c);
+    match step {
+        Step::End => Field::Bad(Fault::MissingField),
+        Step::Read(t, next) => as_address(line, t, next),
+    }
+}
+
+// The address of a `change`, 0 where it has none.
+fn address_or_none(line: &[u8], c: Cursor) -> Field
+    ensures { λ r. ⌜ seen (now (line .entry)) r ≡ addressOrNone (tokensLeft (now (line .entry)) (c .at)) ⌝ }
+    ensures { λ r. ⌜ fieldFits 255 r ⌝ }
+{
+    let step = words::next_word(line, c);
+    match step {
+        Step::End => Field::Is(0, c),
+        Step::Read(t, next) => {
+            if is_word(t, words::TIMES) {
+                return Field::Is(0, c);
+            }
+            as_address(line, t, next)
+        }
+    }
+}
+
+// The hold of a `respond`, 0 where it has none.
+fn hold(line: &[u8], c: Cursor) -> Field
+    ensures { λ r. ⌜ seen (now (line .entry)) r ≡ holdIn (tokensLeft (now (line .entry)) (c .at)) ⌝ }
+    ensures { λ r. ⌜ fieldFits 1 r ⌝ }
+{
+    let step = words::next_word(line, c);
+    match step {
+        Step::End => Field::Is(0, c),
+        Step::Read(t, next) => {
+            if is_word(t, words::HOLD) {
+                return Field::Is(1, next);
+            }
+            Field::Is(0, c)
+        }
+    }
+}
+
+// The end of a line that says r.
+fn last(line: &[u8], r: Line, c: Cursor) -> Line
+    ensures { λ s. ⌜ s ≡ lastOf r (tokensLeft (now (line .entry)) (c .at)) ⌝ }
+{
+    let step = words::next_word(line, c);
+    match step {
+        Step::End => r,
+        Step::Read(_, _) => Line::Wrong(Fault::ExtraField),
+    }
+}
+
+// What follows `*`.
+fn repeat(line: &[u8], a: Action, c: Cursor) -> Line
+    ensures { λ r. ⌜ r ≡ repeatOf a (tokensLeft (now (line .entry)) (c .at)) ⌝ }
+{
+    let f = number(line, LONG, c);
+    match f {
+        Field::Bad(fault) => Line::Wrong(fault),
+        Field::Is(k, next) => {
+            if k == 0 {
+                return Line::Wrong(Fault::NoRepeat);
+            }
+            last(line, Line::Acts(a, k), next)
+        }
+    }
+}
+
+// What follows an action's fields.
+fn ending(line: &[u8], a: Action, c: Cursor) -> Line
+    ensures { λ r. ⌜ r ≡ endingOf a (tokensLeft (now (line .entry)) (c .at)) ⌝ }
+{
+    let step = words::next_word(line, c);
+    match step {
+        Step::End => Line::Acts(a, 1),
+        Step::Read(t, next) => {
+            if is_word(t, words::TIMES) {
+                return repeat(line, a, next);
+            }
+            Line::Wrong(Fault::ExtraField)
+        }
+    }
+}
+
+fn action(kind: u8, node: u8, address: u8, ack: u8, hold: u8, header: u32, datum: u32) -> Action
+    ensures { λ r. ⌜ r ≡ recordOf kind node address ack hold header datum ⌝ }
+{
+    Action {
+        kind: kind,
+        node: node,
+        address: address,
+        ack: ack,
+        hold: hold,
+        byte5: 0,
+        byte6: 0,
+        byte7: 0,
+        header: header,
+        datum: datum,
+    }
+}
+
+// What is wrong with a field; asked of those only that are.
+fn fault_of(f: Field) -> Fault
+    ensures { λ r. ⌜ r ≡ faultOf f ⌝ }
+{
+    match f {
+        Field::Bad(fault) => fault,
+        Field::Is(_, _) => Fault::MissingField,
+    }
+}
+
+fn request(line: &[u8], c: Cursor) -> Line
+    ensures { λ r. ⌜ r ≡ requestOf (tokensLeft (now (line .entry)) (c .at)) ⌝ }
+{
+    let first = number(line, BYTE, c);
+    let Field::Is(node, after_node) = first else {
+        return Line::Wrong(fault_of(first));
+    };
+    let second = address(line, after_node);
+    let Field::Is(to, after_address) = second else {
+        return Line::Wrong(fault_of(second));
+    };
+    let third = number(line, LONG, after_address);
+    let Field::Is(header, after_header) = third else {
+        return Line::Wrong(fault_of(third));
+    };
+    let fourth = number(line, LONG, after_header);
+    let Field::Is(datum, after_datum) = fourth else {
+        return Line::Wrong(fault_of(fourth));
+    };
+    ending(
+        line,
+        action(1, node as u8, to as u8, 0, 0, header, datum),
+        after_datum,
+    )
+}
+
+// An action with a node alone.
+fn of_node(line: &[u8], kind: u8, c: Cursor) -> Line
+    ensures { λ r. ⌜ r ≡ nodeOf kind (tokensLeft (now (line .entry)) (c .at)) ⌝ }
+{
+    let f = number(line, BYTE, c);
+    let Field::Is(node, next) = f else {
+        return Line::Wrong(fault_of(f));
+    };
+    ending(line, action(kind, node as u8, 0, 0, 0, 0, 0), next)
+}
+
+fn respond(line: &[u8], c: Cursor) -> Line
+    ensures { λ r. ⌜ r ≡ respondOf (tokensLeft (now (line .entry)) (c .at)) ⌝ }
+{
+    let first = number(line, BYTE, c);
+    let Field::Is(node, after_node) = first else {
+        return Line::Wrong(fault_of(first));
+    };
+    let second = number(line, BYTE, after_node);
+    let Field::Is(ack, after_ack) = second else {
+        return Line::Wrong(fault_of(second));
+    };
+    let third = hold(line, after_ack);
+    let Field::Is(held, after_hold) = third else {
+        return Line::Wrong(fault_of(third));
+    };
+    ending(
+        line,
+        action(3, node as u8, 0, ack as u8, held as u8, 0, 0),
+        after_hold,
+    )
+}
+
+fn change(line: &[u8], c: Cursor) -> Line
+    ensures { λ r. ⌜ r ≡ changeOf (tokensLeft (now (line .entry)) (c .at)) ⌝ }
+{
+    let f = address_or_none(line, c);
+    let Field::Is(to, next) = f else {
+        return Line::Wrong(fault_of(f));
+    };
+    ending(line, action(7, 0, to as u8, 0, 0, 0, 0), next)
+}
+
+// An action's line after its first word.
+fn of_kind(line: &[u8], kind: u8, c: Cursor) -> Line
+    ensures { λ r. ⌜ r ≡ actionOf kind (tokensLeft (now (line .entry)) (c .at)) ⌝ }
+{
+    match kind {
+        1 => request(line, c),
+        2 => of_node(line, 2, c),
+        3 => respond(line, c),
+        4 => of_node(line, 4, c),
+        7 => change(line, c),
+        _ => ending(line, action(kind, 0, 0, 0, 0, 0, 0), c),
+    }
+}
+
+fn nodes(line: &[u8], c: Cursor) -> Line
+    ensures { λ r. ⌜ r ≡ nodesOf (tokensLeft (now (line .entry)) (c .at)) ⌝ }
+{
+    let f = number(line, BYTE, c);
+    let Field::Is(n, next) = f else {
+        return Line::Wrong(fault_of(f));
+    };
+    last(line, Line::Nodes(n as u8), next)
+}
+
+fn is_kind(k: u8) -> bool
+    ensures { λ r. ⌜ r ≡ isKind k ⌝ }
+{
+    if 0 < k {
+        return k < 11;
+    }
+    false
+}
+
+// A line that begins with a name.
+fn named(line: &[u8], k: u8, c: Cursor) -> Line
+    ensures { λ r. ⌜ r ≡ namedOf k (tokensLeft (now (line .entry)) (c .at)) ⌝ }
+{
+    if is_kind(k) {
+        return of_kind(line, k, c);
+    }
+    if k == words::NODES {
+        return nodes(line, c);
+    }
+    Line::Wrong(Fault::UnknownWord)
+}
+
+// What a line says.
+pub(crate) fn parse(line: &[u8]) -> Line
+    ensures { λ r. ⌜ r ≡ saidBy (tokensOf (now (line .entry))) ⌝ }
+{
+    let step = words::next_word(line, Cursor { at: 0 });
+    match step {
+        Step::End => Line::Blank,
+        Step::Read(t, next) => match t {
+            Token::Word(k) => named(line, k, next),
+            Token::Number(_) => Line::Wrong(Fault::UnknownWord),
+            Token::Large => Line::Wrong(Fault::UnknownWord),
+        },
+    }
+}

@@ -1,0 +1,247 @@
+// The words of a line, one after the other, and what each of them is.
+ghost use mathlib.Core.Path.{_≡_};
+ghost use mathlib.Core.Bool.{false};
+ghost use mathlib.Core.List.{[], _∷_};
+ghost use Prim.Native.Nat.{_+_, _-_, _<_, _≤_};
+ghost use lib.ListN.{length, take, drop, getD};
+ghost use Rattle.notation.specs.Words.{isBlank, endsWord, same, names, nameOf, digitOf, digitsOf, isHex, tokenOf, limit, capped, valueOf};
+ghost use Rattle.notation.specs.Cursors.{tokensLeft, stepped};
+
+pub(crate) const NODES: u8 = 11;
+
+pub(crate) const ALL: u8 = 12;
+
+pub(crate) const HOLD: u8 = 13;
+
+pub(crate) const TIMES: u8 = 14;
+
+const LIMIT: u64 = 4294967296;
+
+// A place in a line.
+pub(crate) struct Cursor {
+    pub at: usize,
+}
+
+// What a word is: a name by its place among the names (0: unknown), a number, or a number over 32 bits.
+pub(crate) enum Token {
+    Word(u8),
+    Number(u32),
+    Large,
+}
+
+// What reading at a cursor finds: no word, or a word and the place after it.
+pub(crate) enum Step {
+    End,
+    Read(Token, Cursor),
+}
+
+fn is_blank(b: u8) -> bool
+    ensures { λ r. ⌜ r ≡ isBlank b ⌝ }
+{
+    if b == b' ' {
+        return true;
+    }
+    if b == b'\t' {
+        return true;
+    }
+    b == b'\r'
+}
+
+fn ends_word(b: u8) -> bool
+    ensures { λ r. ⌜ r ≡ endsWord b ⌝ }
+{
+    if is_blank(b) {
+        return true;
+    }
+    b == b'#'
+}
+
+fn is_same(a: &[u8], b: &[u8]) -> bool
+    ensures { λ r. ⌜ r ≡ same (now (a .entry)) (now (b .entry)) ⌝ }
+{
+    if a.len() != b.len() {
+        return false;
+    }
+    let mut i: usize = 0;
+    while i < a.len() {
+        if a[i] != b[i] {
+            return false;
+        }
+        i += 1;
+    }
+    true
+}
+
+// Whether a word is the name with that place.
+fn is_name(w: &[u8], k: u8) -> bool
+    requires { ⌜ k < 14 ⌝ }
+    ensures { λ r. ⌜ r ≡ same (now (w .entry)) (getD names k []) ⌝ }
+{
+    match k {
+        0 => is_same(w, b"request"),
+        1 => is_same(w, b"arbitrate"),
+        2 => is_same(w, b"respond"),
+        3 => is_same(w, b"clock"),
+        4 => is_same(w, b"pass"),
+        5 => is_same(w, b"lose"),
+        6 => is_same(w, b"change"),
+        7 => is_same(w, b"grant"),
+        8 => is_same(w, b"gap"),
+        9 => is_same(w, b"reset"),
+        10 => is_same(w, b"nodes"),
+        11 => is_same(w, b"all"),
+        12 => is_same(w, b"hold"),
+        _ => is_same(w, b"*"),
+    }
+}
+
+// A word's name: its place among the names from 1, or 0.
+fn name(w: &[u8]) -> u8
+    ensures { λ r. ⌜ r ≡ nameOf (now (w .entry)) ⌝ }
+{
+    let mut k: u8 = 0;
+    while k < 14 {
+        if is_name(w, k) {
+            return k + 1;
+        }
+        k += 1;
+    }
+    0
+}
+
+// A byte's digit; 16 for a byte that is none.
+fn digit(b: u8) -> u8
+    ensures { λ r. ⌜ r ≡ digitOf b ⌝ }
+    ensures { λ r. ⌜ r ≤ 16 ⌝ }
+{
+    if b < b'0' {
+        return 16;
+    }
+    if b < 58 {
+        return b - b'0';
+    }
+    if b < b'A' {
+        return 16;
+    }
+    if b < 71 {
+        return b - 55;
+    }
+    if b < b'a' {
+        return 16;
+    }
+    if b < 103 {
+        return b - 87;
+    }
+    16
+}
+
+fn cap(x: u64) -> u64
+    ensures { λ r. ⌜ r ≡ capped x ⌝ }
+    ensures { λ r. ⌜ r ≤ limit ⌝ }
+{
+    if x < LIMIT { x } else { LIMIT }
+}
+
+fn value(x: u64) -> Token
+    ensures { λ r. ⌜ r ≡ valueOf x ⌝ }
+{
+    if x < LIMIT {
+        return Token::Number(x as u32);
+    }
+    Token::Large
+}
+
+// The number that digits of a base are.
+fn number(base: u8, w: &[u8]) -> Token
+    requires { ⌜ base ≤ 16 ⌝ }
+    ensures { λ r. ⌜ r ≡ digitsOf base (now (w .entry)) ⌝ }
+{
+    let mut x: u64 = 0;
+    let mut i: usize = 0;
+    while i < w.len() {
+        let d = digit(w[i]);
+        if base <= d {
+            return Token::Word(0);
+        }
+        x = cap(x * (base as u64) + d as u64);
+        i += 1;
+    }
+    value(x)
+}
+
+fn is_hex(w: &[u8]) -> bool
+    requires { ⌜ 0 < length (now w) ⌝ }
+    ensures { λ r. ⌜ r ≡ isHex (now (w .entry)) ⌝ }
+{
+    if w[0] != b'0' {
+        return false;
+    }
+    if w.len() < 2 {
+        return false;
+    }
+    w[1] == b'x'
+}
+
+// What a word is.
+fn token_of(w: &[u8]) -> Token
+    requires { ⌜ 0 < length (now w) ⌝ }
+    ensures { λ r. ⌜ r ≡ tokenOf (now (w .entry)) ⌝ }
+{
+    if 10 <= digit(w[0]) {
+        return Token::Word(name(w));
+    }
+    if !is_hex(w) {
+        return number(10, w);
+    }
+    if w.len() <= 2 {
+        return Token::Word(0);
+    }
+    number(16, &w[2..])
+}
+
+// The first place from `at` on that is no blank.
+fn skip_blanks(line: &[u8], at: usize) -> usize
+    ensures { λ r. ⌜ tokensLeft (now (line .entry)) r ≡ tokensLeft (now (line .entry)) at ⌝ }
+    ensures { λ r. ⌜ (r < length (now (line .entry)) → isBlank (getD (now (line .entry)) r 0) ≡ false) ⌝ }
+{
+    let mut i = at;
+    while i < line.len() {
+        if !is_blank(line[i]) {
+            return i;
+        }
+        i += 1;
+    }
+    i
+}
+
+// The end of the word that begins at a place.
+fn end_of_word(line: &[u8], from: usize) -> usize
+    requires { ⌜ from < length (now line) ⌝ }
+    requires { ⌜ endsWord (getD (now line) from 0) ≡ false ⌝ }
+    ensures { λ r. ⌜ (from < r) × (r ≤ length (now (line .entry))) ⌝ }
+    ensures { λ r. ⌜ tokensLeft (now (line .entry)) from ≡ tokenOf (take (r - from) (drop from (now (line .entry)))) ∷ tokensLeft (now (line .entry)) r ⌝ }
+{
+    let mut i = from + 1;
+    while i < line.len() {
+        if ends_word(line[i]) {
+            return i;
+        }
+        i += 1;
+    }
+    i
+}
+
+// The next word from a cursor on.
+pub(crate) fn next_word(line: &[u8], c: Cursor) -> Step
+    ensures { λ r. ⌜ tokensLeft (now (line .entry)) (c .at) ≡ stepped (now (line .entry)) r ⌝ }
+{
+    let from = skip_blanks(line, c.at);
+    if line.len() <= from {
+        return Step::End;
+    }
+    if line[from] == b'#' {
+        return Step::End;
+    }
+    let to = end_of_word(line, from);
+    Step::Read(token_of(&line[from..to]), Cursor { at: to })
+}
