@@ -3,3 +3,4 @@ pub mod PhaseLaws
 pub mod ReadLaws
 pub mod ViewLaws
 pub mod Advances
+pub mod InPlace

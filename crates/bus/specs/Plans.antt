@@ -1,7 +1,8 @@
 -- Plans: what an action, or a refused record, comes to for the one node that it is about.
 use mathlib.Core.Path.{_≡_}
-use mathlib.Core.Bool.{Bool, true}
+use mathlib.Core.Bool.{Bool, true, cond, _&&_}
 use Prim.Native.Nat.{ℕ, _<_, _≤_}
+use lib.Dec.{ltb}
 use Rattle.charts.specs.declared.Report.{Report}
 use Rattle.charts.specs.declared.Report.the-variants.{Silent}
 use Rattle.charts.specs.declared.Phase.{Phase}
@@ -36,6 +37,14 @@ aimed n p ps (Accepted m) = target n p ps m
 abbrev pub planned : ℕ → Phase → ℕ → Cell → (ℕ → Bool) → (ℕ → Bool) → (ℕ → Bool) → Decoded → Plan
 planned n p i c ws ps hs (Refused k) = refusing k p c
 planned n p i c ws ps hs (Accepted m) = settled p c (outcome n p i c ws ps hs m)
+
+-- the clauses of 12 that make a plan for node i safe; the plan that asks for them, of any record about any node
+abbrev pub isReady : ℕ → Phase → ℕ → Bool
+isReady n p i = ltb n 64 && (phaseFits n p && ltb i 63)
+
+abbrev pub tried : ℕ → Phase → ℕ → Cell → (ℕ → Bool) → (ℕ → Bool) → (ℕ → Bool) → Decoded → Plan
+tried n p i c ws ps hs (Refused k) = refusing k p c
+tried n p i c ws ps hs (Accepted m) = cond (isReady n p i) (settled p c (outcome n p i c ws ps hs m)) (refusing N.not-valid p c)
 
 -- what indexing by an accepted record needs
 pub record Fits (n : ℕ) (p : Phase) (i : ℕ) : Type 0 where

@@ -8,7 +8,7 @@ use charts::Mode;
 use charts::Node;
 use charts::Packet;
 
-pub(crate) fn cell_of(x: Node, won: bool, pending: bool, holder: bool, misled: bool) -> Cell
+pub fn cell_of(x: Node, won: bool, pending: bool, holder: bool, misled: bool) -> Cell
     ensures { λ r. ⌜ r ≡ cellOf x won pending holder misled ⌝ }
 {
     let mode = x.mode;
@@ -25,7 +25,7 @@ pub(crate) fn cell_of(x: Node, won: bool, pending: bool, holder: bool, misled: b
     }
 }
 
-pub(crate) fn node_of(c: Cell) -> Node
+pub fn node_of(c: Cell) -> Node
     ensures { λ r. ⌜ r ≡ record { mode = c .mode; buffer = c .buffer; sending = c .sending } ⌝ }
 {
     let mode = c.mode;

@@ -5,16 +5,19 @@ ghost use Prim.Native.Nat.{_<_, _≤_};
 ghost use Rattle.charts.specs.Actions.{target, outcome};
 ghost use Rattle.charts.specs.Valid.{phaseFits};
 ghost use Rattle.charts.specs.View.{mark};
-ghost use Rattle.bus.specs.Plans.{settled, aimed, planned, numberOf, Ready};
+ghost use Rattle.bus.specs.Plans.{settled, aimed, tried, numberOf, Ready};
 use crate::actions;
 use crate::marks;
 use crate::phases;
 use crate::plans;
 use crate::plans::Plan;
+use crate::validity;
 use charts::Cell;
 use charts::Decoded;
 use charts::Move;
 use charts::Phase;
+
+const NOT_VALID: u8 = 12;
 
 // The node that an action is about.
 fn target(n: u8, phase: Phase, pending: [bool; 63], m: Move) -> u8
@@ -87,7 +90,7 @@ pub(crate) fn aim(n: u8, phase: Phase, pending: [bool; 63], d: Decoded) -> u8
     target(n, phase, pending, m)
 }
 
-// The plan of a record about node i, whose cell is c.
+// The plan of a record about node i, whose cell is c: an accepted one is carried out on what passes 12.
 pub(crate) fn decide(
     n: u8,
     phase: Phase,
@@ -98,12 +101,13 @@ pub(crate) fn decide(
     holder: [bool; 63],
     d: Decoded,
 ) -> Plan
-    requires { ⌜ Ready n phase (mark pending) d ⌝ }
-    requires { ⌜ i < 63 ⌝ }
-    ensures { λ r. ⌜ r ≡ planned n phase i c (mark won) (mark pending) (mark holder) d ⌝ }
+    ensures { λ r. ⌜ r ≡ tried n phase i c (mark won) (mark pending) (mark holder) d ⌝ }
 {
     let Decoded::Accepted(m) = d else {
         return plans::refuse(number_of(d), phase, c);
     };
+    if !validity::is_ready(n, phase, i) {
+        return plans::refuse(NOT_VALID, phase, c);
+    }
     play(n, phase, i, c, won, pending, holder, m)
 }

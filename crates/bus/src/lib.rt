@@ -4,11 +4,18 @@ ghost use Rattle.charts.specs.State.{fresh};
 ghost use Rattle.charts.specs.Step.{begin, look, step, stepWith};
 ghost use Rattle.charts.specs.View.{view, mark, seen, seenBegun};
 ghost use Rattle.bus.specs.Advance.{glance, advanceOf};
-ghost use Rattle.bus.specs.Plans.{Ready};
+ghost use mathlib.Core.Bool.{_&&_};
+ghost use Prim.Native.Nat.{_<_};
+ghost use lib.Dec.{ltb};
+ghost use Rattle.bus.specs.Marks.{unmarked, clearsMisled, clearsWon};
+ghost use Rattle.bus.specs.Plans.{Ready, aimed, tried};
+use crate::plans::Plan;
 use charts::Action;
 use charts::Begun;
 use charts::Buffer;
 use charts::Bus;
+use charts::Cell;
+use charts::Clears;
 use charts::Decoded;
 use charts::Head;
 use charts::Mode;
@@ -19,11 +26,11 @@ use charts::Played;
 
 mod actions;
 mod bools;
-mod cells;
+pub mod cells;
 mod decide;
 mod marks;
 mod phases;
-mod plans;
+pub mod plans;
 mod validity;
 
 const WRONG_SIZE: u8 = 1;
@@ -153,4 +160,54 @@ pub fn advance(b: Bus, a: Action) -> Played
 {
     let phase = b.phase;
     carry_out(b, glance(b.n, phase, a))
+}
+
+// The node that a record is about, and the record looked at.
+pub struct Aimed {
+    pub node: u8,
+    pub decoded: Decoded,
+}
+
+// For a player that keeps the nodes' records and the marks in its own arrays and plays in place: at which node `advance` reads and writes.
+pub fn aim(n: u8, phase: Phase, pending: [bool; 63], a: Action) -> Aimed
+    ensures { λ r. ⌜ r .decoded ≡ glance n phase a ⌝ }
+    ensures { λ r. ⌜ r .node ≡ aimed n phase (mark pending) (glance n phase a) ⌝ }
+    ensures { λ r. ⌜ r .node < 63 ⌝ }
+{
+    let decoded = glance(n, phase, a);
+    let node = decide::aim(n, phase, pending, decoded);
+    Aimed {
+        node: node,
+        decoded: decoded,
+    }
+}
+
+// What `advance` makes of that node, whose cell is c. (proofs/InPlace.antt: carrying the plan out on the arrays is `advance`.)
+pub fn plan(
+    n: u8,
+    phase: Phase,
+    i: u8,
+    c: Cell,
+    won: [bool; 63],
+    pending: [bool; 63],
+    holder: [bool; 63],
+    d: Decoded,
+) -> Plan
+    ensures { λ r. ⌜ r ≡ tried n phase i c (mark won) (mark pending) (mark holder) d ⌝ }
+{
+    decide::decide(n, phase, i, c, won, pending, holder, d)
+}
+
+// The misled marks once a plan is carried out; a bus has at most 63 nodes.
+pub fn clear_misled(misled: [bool; 63], clears: Clears, n: u8) -> [bool; 63]
+    ensures { λ r. ⌜ mark r ≡ unmarked (clearsMisled clears && ltb n 64) n (mark misled) ⌝ }
+{
+    marks::clear(misled, bools::both(plans::clears_misled(clears), n < 64), n)
+}
+
+// The won marks once a plan is carried out.
+pub fn clear_won(won: [bool; 63], clears: Clears, n: u8) -> [bool; 63]
+    ensures { λ r. ⌜ mark r ≡ unmarked (clearsWon clears && ltb n 64) n (mark won) ⌝ }
+{
+    marks::clear(won, bools::both(plans::clears_won(clears), n < 64), n)
 }

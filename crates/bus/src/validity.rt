@@ -6,6 +6,7 @@ ghost use Rattle.charts.specs.Records.{isAddress};
 ghost use Rattle.charts.specs.State.{every};
 ghost use Rattle.charts.specs.Valid.{isSize, isAck, seenFits, modeFits, bufferFits, cellFits, signalFits, phaseFits, valid};
 ghost use Rattle.charts.specs.View.{view, cellOf};
+ghost use Rattle.bus.specs.Plans.{isReady};
 use crate::bools;
 use charts::Buffer;
 use charts::Bus;
@@ -132,6 +133,13 @@ pub(crate) fn is_safe(n: u8, phase: Phase) -> bool
     ensures { λ r. ⌜ r ≡ (isSize n && phaseFits n phase) ⌝ }
 {
     bools::both(is_size(n), phase_fits(n, phase))
+}
+
+// What indexing by a plan needs.
+pub(crate) fn is_ready(n: u8, phase: Phase, i: u8) -> bool
+    ensures { λ r. ⌜ r ≡ isReady n phase i ⌝ }
+{
+    bools::both(n < 64, bools::both(phase_fits(n, phase), i < 63))
 }
 
 fn nodes_fit(b: Bus) -> bool

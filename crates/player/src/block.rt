@@ -79,6 +79,7 @@ pub(crate) struct Part {
 }
 
 // Plays the actions of a block, the first of which has that index, and puts their text from place `at` on, up to the first refusal.
+// The bus's arrays are locals here and each action changes them in place: to hand the record to `bus::advance` and back would copy it twice an action.
 pub(crate) fn play_actions(
     b: Bus,
     piece: &[u8],
@@ -95,29 +96,67 @@ pub(crate) fn play_actions(
     ensures { λ r. ⌜ Plays (partOf (actionsIn count (now (piece .entry))) (view b) first) (now (out .entry)) at r (now (out .exit)) ⌝ }
 {
     let last = count as usize;
-    let mut c = b;
+    let n = b.n;
+    let mut phase = b.phase;
+    let mut nodes = b.nodes;
+    let mut won = b.won;
+    let mut pending = b.pending;
+    let mut holder = b.holder;
+    let mut misled = b.misled;
     let mut end = at;
     let mut k: usize = 0;
     while k < last {
         let from = 14 + 16 * k;
         let a = record::read_action(&piece[from..]);
-        let r = bus::advance(c, a);
-        c = r.bus;
+        let aimed = bus::aim(n, phase, pending, a);
+        let d = aimed.decoded;
+        let i = aimed.node as usize;
+        let node = nodes[i];
+        let c = bus::cells::cell_of(node, won[i], pending[i], holder[i], misled[i]);
+        let plan = bus::plan(n, phase, aimed.node, c, won, pending, holder, d);
+        let next = plan.cell;
+        nodes[i] = bus::cells::node_of(next);
+        won[i] = next.won;
+        pending[i] = next.pending;
+        holder[i] = next.holder;
+        misled[i] = next.misled;
+        let clears = plan.clears;
+        won = bus::clear_won(won, clears, n);
+        misled = bus::clear_misled(misled, clears, n);
+        phase = plan.phase;
         let index = first + k as u64;
-        if r.number != 0 {
-            let stop = transcript::put_refused(out, end, index, r.number);
+        if plan.number != 0 {
+            let stop = transcript::put_refused(out, end, index, plan.number);
+            let then = Bus {
+                n: n,
+                phase: phase,
+                nodes: nodes,
+                won: won,
+                pending: pending,
+                holder: holder,
+                misled: misled,
+            };
             return Part {
-                bus: c,
+                bus: then,
                 end: stop,
                 ended: true,
             };
         }
-        let report = r.report;
+        let report = plan.report;
         end = transcript::put_line(out, end, index, a.kind, report);
         k += 1;
     }
+    let then = Bus {
+        n: n,
+        phase: phase,
+        nodes: nodes,
+        won: won,
+        pending: pending,
+        holder: holder,
+        misled: misled,
+    };
     Part {
-        bus: c,
+        bus: then,
         end: end,
         ended: false,
     }

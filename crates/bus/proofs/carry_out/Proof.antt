@@ -1,3 +1,4 @@
+use Rattle.bus.proofs.InPlace.{planned-by}
 use Rattle.bus.proofs.ReadLaws.{clearing-fits}
 use Rattle.bus.specs.Marks.{unmarked, clearsMisled, clearsWon}
 use Rattle.charts.specs.View.{mark, Sized}
@@ -36,7 +37,7 @@ cell-of-requires : tie.Need-cell-of-requires
 cell-of-requires c κs = search needs
 
 decide-requires : tie.Need-decide-requires
-decide-requires c κs = (c .before .before .before .before .before .before .before .before .pre, c .before .before .aim .ensures .1)
+decide-requires c κs = search needs
 
 node-of-requires : tie.Need-node-of-requires
 node-of-requires c κs = search needs
@@ -63,13 +64,13 @@ clears-misled-requires : tie.Need-clears-misled-requires
 clears-misled-requires c κs = search needs
 
 clear-requires : tie.Need-clear-requires
-clear-requires c κs = let a = c .before .before .before .before .before .before .before .before .before .before .before .before .args in λ e. clearing-fits clearsMisled refl (a .b) (a .d) (c .before .before .before .before .before .before .aim .result) (c .before .before .before .before .cell-of .result) (c .before .before .before .decide .result) (c .before .before .before .before .before .before .before .before .before .before .before .before .pre) (c .before .before .before .decide .ensures) (sym (c .clears-misled .ensures) ∙ e)
+clear-requires c κs = let a = c .before .before .before .before .before .before .before .before .before .before .before .before .args in λ e. clearing-fits clearsMisled refl (a .b) (a .d) (c .before .before .before .before .before .before .aim .result) (c .before .before .before .before .cell-of .result) (c .before .before .before .decide .result) (c .before .before .before .before .before .before .before .before .before .before .before .before .pre) (planned-by (a .b) (a .d) (c .before .before .before .before .before .before .aim .result) (c .before .before .before .before .cell-of .result) (c .before .before .before .decide .result) (c .before .before .before .before .before .before .before .before .before .before .before .before .pre) (c .before .before .before .before .before .before .aim .ensures .1) (c .before .before .before .decide .ensures)) (sym (c .clears-misled .ensures) ∙ e)
 
 clears-won-requires : tie.Need-clears-won-requires
 clears-won-requires c κs = search needs
 
 clear-requires-2 : tie.Need-clear-requires-2
-clear-requires-2 c κs = let a = c .before .before .before .before .before .before .before .before .before .before .before .before .before .before .args in λ e. clearing-fits clearsWon refl (a .b) (a .d) (c .before .before .before .before .before .before .before .before .aim .result) (c .before .before .before .before .before .before .cell-of .result) (c .before .before .before .before .before .decide .result) (c .before .before .before .before .before .before .before .before .before .before .before .before .before .before .pre) (c .before .before .before .before .before .decide .ensures) (sym (c .clears-won .ensures) ∙ e)
+clear-requires-2 c κs = let a = c .before .before .before .before .before .before .before .before .before .before .before .before .before .before .args in λ e. clearing-fits clearsWon refl (a .b) (a .d) (c .before .before .before .before .before .before .before .before .aim .result) (c .before .before .before .before .before .before .cell-of .result) (c .before .before .before .before .before .decide .result) (c .before .before .before .before .before .before .before .before .before .before .before .before .before .before .pre) (planned-by (a .b) (a .d) (c .before .before .before .before .before .before .before .before .aim .result) (c .before .before .before .before .before .before .cell-of .result) (c .before .before .before .before .before .decide .result) (c .before .before .before .before .before .before .before .before .before .before .before .before .before .before .pre) (c .before .before .before .before .before .before .before .before .aim .ensures .1) (c .before .before .before .before .before .decide .ensures)) (sym (c .clears-won .ensures) ∙ e)
 
 returns : tie.Need-returns
 returns c =
@@ -80,7 +81,7 @@ returns c =
     ap (resultOf p) (stored b (p .phase) i (p .cell) (p .clears) (c .before .before .before .before .node-of .result) (c .clear2 .result) (c .before .before .clear .result) sized (c .before .before .before .before .before .before .before .before .before .aim .ensures .1) (c .before .before .before .before .node-of .ensures)
     (c .clear2 .ensures ∙ ap (λ o. unmarked o (b .n) (mark (set (b .won) i (p .cell .won)))) (c .before .clears-won .ensures))
     (c .before .before .clear .ensures ∙ ap (λ o. unmarked o (b .n) (mark (set (b .misled) i (p .cell .misled)))) (c .before .before .before .clears-misled .ensures)))
-    ∙ carried b (c .before .before .before .before .before .before .before .before .before .before .before .before .before .before .before .args .d) i (c .before .before .before .before .before .before .before .cell-of .result) p (c .before .before .before .before .before .before .before .before .before .aim .ensures .0) (c .before .before .before .before .before .before .before .cell-of .ensures) (c .before .before .before .before .before .before .decide .ensures)
+    ∙ carried b (c .before .before .before .before .before .before .before .before .before .before .before .before .before .before .before .args .d) i (c .before .before .before .before .before .before .before .cell-of .result) p (c .before .before .before .before .before .before .before .before .before .aim .ensures .0) (c .before .before .before .before .before .before .before .cell-of .ensures) (planned-by b (c .before .before .before .before .before .before .before .before .before .before .before .before .before .before .before .args .d) i (c .before .before .before .before .before .before .before .cell-of .result) p (c .before .before .before .before .before .before .before .before .before .before .before .before .before .before .before .pre) (c .before .before .before .before .before .before .before .before .before .aim .ensures .1) (c .before .before .before .before .before .before .decide .ensures))
 
 pub carry-out-spec : {M : Type 1} → statement M
 carry-out-spec =

@@ -23,9 +23,10 @@ played-turn : (b : Bus) (p : Played) (s : List ℕ) (count k : ℕ) → k < coun
     (after (view (p .bus)) (actionsOf (count - (k + 1)) (drop (16 * (k + 1)) s)) ≡ after (view b) (actionsOf (count - k) (drop (16 * k) s)))
     × (acceptedOf (view b) (actionsOf (count - k) (drop (16 * k) s)) ≡ one (eqb (p .number) 0) + acceptedOf (view (p .bus)) (actionsOf (count - (k + 1)) (drop (16 * (k + 1)) s)))
 played-turn b p s count k h e =
-    let more = records-more s count k h in
-    (ap (λ (r : Result). after (r .state) rest) e ∙ sym (ap (after (view b)) more),
-    ap (acceptedOf (view b)) more ∙ sym (ap (λ (r : Result). one (eqb (r .number) 0) + acceptedOf (r .state) rest) e))
+    let more = records-more s count k h in (
+      ap (λ (r : Result). after (r .state) rest) e ∙ sym (ap (after (view b)) more),
+      ap (acceptedOf (view b)) more ∙ sym (ap (λ (r : Result). one (eqb (r .number) 0) + acceptedOf (r .state) rest) e),
+    )
   where
     rest : List Action
     rest = actionsOf (count - (k + 1)) (drop (16 * (k + 1)) s)
@@ -78,7 +79,7 @@ loop-again c =
     let s = c .before .before .before .before .before .before .before .before .args .records .now in
     let a = rw tail-part at (c .before .before .before .read-action .ensures) in
     let turn = played-turn (l .bus) (c .before .before .step .result) s (length s / 16) (l .k) (c .before .before .before .before .before .loop-test .taken)
-        (c .before .before .step .ensures ∙ ap (step (view (l .bus))) a) in
+    (c .before .before .step .ensures ∙ ap (step (view (l .bus))) a) in
     (omega arith, omega arith, omega (arith, c .before .one-if-accepted .ensures .1), turn .0 ∙ l .inv .3, omega (arith, turn .1, l .inv .4, c .before .one-if-accepted .ensures .0))
 
 returns : tie.Need-returns Inv-loop μ-loop
@@ -88,7 +89,7 @@ returns c =
     let none = records-none s (length s / 16) (l .k) (c .loop-test .left) in
     let e : view (l .bus) ≡ after (view (c .before .before .before .args .start)) (actionsOf (length s / 16) s) = sym (ap (after (view (l .bus))) none) ∙ l .inv .3 in
     let q : l .accepted ≡ acceptedOf (view (c .before .before .before .args .start)) (actionsOf (length s / 16) s) =
-      omega (arith, l .inv .4, ap (acceptedOf (view (l .bus))) none) in
+    omega (arith, l .inv .4, ap (acceptedOf (view (l .bus))) none) in
     λ t. record { number = c .before .before .before .args .number; accepted = q t; state = e t }
 
 pub play-on-spec : {M : Type 1} → statement M

@@ -29,7 +29,7 @@ returns c =
     let n = c .before .before .before .before .args .n in
     let l = recordsIn (c .before .before .before .before .args .records .now) in
     let e : seenReplay (c .play-on .result) ≡ playedOn (begin n .number) (begin n .state) l =
-      c .play-on .ensures ∙ ap (λ (r : Result). playedOn (r .number) (r .state) l) (c .before .before .fresh .ensures) in
+    c .play-on .ensures ∙ ap (λ (r : Result). playedOn (r .number) (r .state) l) (c .before .before .fresh .ensures) in
     record {
       played = e;
       returned = λ h. ap (λ (r : Replay). r .state) e ∙ ap (λ (r : Result). after (r .state) l) (begin-fresh n h);

@@ -1,3 +1,10 @@
+use mathlib.Core.Bool.{_&&_}
+use lib.Dec.{ltb}
+use native.Mathlib.Omega.{arith}
+use mathlib.Core.Path.{sym, _∙_}
+use borrow.Author.Tests.{not-true, not-false, ltb-true}
+use Rattle.charts.proofs.Tools.{and-true}
+use Rattle.charts.specs.Valid.{phaseFits}
 use borrow.Author.Needs.{needs}
 use Rattle.bus.proofs.decide.decide.Statement.{statement}
 use Rattle.bus.proofs.decide.decide.Tie as tie
@@ -17,11 +24,26 @@ refuse-requires c κs = search needs
 returns : tie.Need-returns
 returns c = simp (c .before .before .enum-told .given .1, c .before .number-of .ensures, c .refuse .ensures)
 
-play-requires : tie.Need-play-requires
-play-requires c κs = let p = c .before .before .before .pre in let r = rw (c .before .d .given .1) at (p .0) in (r .size, (r .stage, p .1))
+is-ready-requires : tie.Need-is-ready-requires
+is-ready-requires c κs = search needs
+
+refuse-requires-2 : tie.Need-refuse-requires-2
+refuse-requires-2 c κs = search needs
 
 returns-2 : tie.Need-returns-2
-returns-2 c = simp (c .before .before .d .given .1, c .play .ensures)
+returns-2 c = simp (c .before .before .before .before .d .given .1, ← c .before .before .is-ready .ensures, not-true (c .before .before .is-ready .result) (c .before .if1 .taken), c .refuse2 .ensures)
+
+play-requires : tie.Need-play-requires
+play-requires c κs =
+    let a = c .before .before .before .before .before .args in
+    let e = sym (c .before .is-ready .ensures) ∙ not-false (c .before .is-ready .result) (c .if1 .left) in
+    let r = and-true (ltb (a .n) 64) _ e in
+    let s = and-true (phaseFits (a .n) (a .phase)) _ (r .1) in
+    let size = ltb-true (a .n) 64 (r .0) in
+    (omega arith, (s .0, ltb-true (a .i) 63 (s .1)))
+
+returns-3 : tie.Need-returns-3
+returns-3 c = simp (c .before .before .before .before .d .given .1, ← c .before .before .is-ready .ensures, not-false (c .before .before .is-ready .result) (c .before .if1 .left), c .play .ensures)
 
 pub decide-spec : {M : Type 1} → statement M
 decide-spec =
@@ -32,5 +54,8 @@ decide-spec =
     number-of-requires
     refuse-requires
     returns
+    is-ready-requires
+    refuse-requires-2
+    returns-2
     play-requires
-    returns-2)
+    returns-3)

@@ -1,10 +1,20 @@
-use Prim.Native.Nat.{suc, _+_, _*_, _-_, _≤_}
-use mathlib.Core.Path.{_≡_}
+use Prim.Native.Nat.{ℕ, suc, _+_, _*_, _-_, _≤_}
+use mathlib.Core.Path.{_≡_, ap, _∙_}
+use mathlib.Core.Bool.{Bool}
+use mathlib.Core.List.{List}
 use borrow.Author.Needs.{needs}
 use borrow.Author.Tests.{eq-eqb, ne-eqb}
 use native.Mathlib.Omega.{arith}
-use lib.ListN.{length, drop}
-use Rattle.charts.specs.View.{view, seen}
+use lib.ListN.{length, drop, set, length-set}
+use Rattle.charts.specs.declared.Bus.{Bus}
+use Rattle.charts.specs.declared.Node.{Node}
+use Rattle.charts.specs.declared.Phase.{Phase}
+use Rattle.charts.specs.declared.Played.{Played}
+use Rattle.charts.specs.View.{view, seen, mark, Sized}
+use Rattle.bus.specs.Advance.{advanceOf}
+use Rattle.bus.specs.Plans.{tried}
+use Rattle.bus.proofs.ViewLaws.{length-mapped}
+use Rattle.bus.proofs.InPlace.{in-place}
 use Rattle.record.specs.Layout.{actionAt}
 use Rattle.record.proofs.Walk.{tail-part}
 use Rattle.transcript.specs.Lines.{lineOf, refusedLine}
@@ -15,19 +25,27 @@ use Rattle.player.proofs.Loop.{left, left-all, left-none, left-more, Sa
 use Rattle.player.proofs.block.play_actions.Statement.{statement}
 use Rattle.player.proofs.block.play_actions.Tie as tie
 
+-- the record of the loop's arrays
+abbrev busOf : ℕ → Phase → List Node → List Bool → List Bool → List Bool → List Bool → Bus
+busOf n phase nodes won pending holder misled = record { n = n; phase = phase; nodes = nodes; won = won; pending = pending; holder = holder; misled = misled }
+
 abbrev Inv-loop : tie.InvT-loop
-Inv-loop piece count first out₀ at last c₀ end₀ k₀ out c end k =
+Inv-loop piece count first out₀ at last n phase₀ nodes₀ won₀ pending₀ holder₀ misled₀ end₀ k₀ out phase nodes won pending holder misled end k =
     (k ≤ last) × (last ≡ count) × (end ≤ at + 64 * k)
-    × Same out₀ at (partOf (actionsIn count piece) (view c₀) first) out end (partOf (left count k piece) (view c) (first + k))
+    × Same out₀ at (partOf (actionsIn count piece) (view (busOf n phase₀ nodes₀ won₀ pending₀ holder₀ misled₀)) first) out end
+    (partOf (left count k piece) (view (busOf n phase nodes won pending holder misled)) (first + k))
+    × Sized (busOf n phase nodes won pending holder misled)
 
 abbrev μ-loop : tie.MeasureT-loop
-μ-loop piece count first out₀ at last c₀ end₀ k₀ out c end k = last - k
+μ-loop piece count first out₀ at last n phase₀ nodes₀ won₀ pending₀ holder₀ misled₀ end₀ k₀ out phase nodes won pending holder misled end k = last - k
 
 loop-holds : tie.Need-loop-holds Inv-loop μ-loop
 loop-holds c =
-    let a = c .before .args in
+    let a = c .before .before .before .before .before .before .args in
     let none : a .first + 0 ≡ a .first = omega arith in
-    (search needs, search needs, search needs, rw (left-all, none) (at-start _ _ _))
+    let good = c .before .before .before .before .before .before .good in
+    let sized : Sized (a .b) = record { nodes-size = search (needs, good, length-mapped); won-size = search (needs, good); pending-size = search (needs, good); holder-size = search (needs, good .0 .1 .1 .1 .1); misled-size = search (needs, good .0 .1 .1 .1 .1) } in
+    (search needs, search needs, search needs, rw (left-all, none) (at-start _ _ _), sized)
 
 mul-from : tie.Need-mul-from Inv-loop μ-loop
 mul-from c = search needs
@@ -47,27 +65,94 @@ part-read-action-end c = search needs
 read-action-requires : tie.Need-read-action-requires Inv-loop μ-loop
 read-action-requires c κs = search needs
 
-advance-requires : tie.Need-advance-requires Inv-loop μ-loop
-advance-requires c κs = search needs
+aim-requires : tie.Need-aim-requires Inv-loop μ-loop
+aim-requires c κs = search needs
+
+cast-i : tie.Need-cast-i Inv-loop μ-loop
+cast-i c = search needs
+
+mul-node : tie.Need-mul-node Inv-loop μ-loop
+mul-node c = search needs
+
+array-copy-out-node : tie.Need-array-copy-out-node Inv-loop μ-loop
+array-copy-out-node c = search needs
+
+array-read-cell-of : tie.Need-array-read-cell-of Inv-loop μ-loop
+array-read-cell-of c = search needs
+
+array-read-cell-of-2 : tie.Need-array-read-cell-of-2 Inv-loop μ-loop
+array-read-cell-of-2 c = search needs
+
+array-read-cell-of-3 : tie.Need-array-read-cell-of-3 Inv-loop μ-loop
+array-read-cell-of-3 c = search needs
+
+array-read-cell-of-4 : tie.Need-array-read-cell-of-4 Inv-loop μ-loop
+array-read-cell-of-4 c = search needs
+
+cell-of-requires : tie.Need-cell-of-requires Inv-loop μ-loop
+cell-of-requires c κs = search needs
+
+plan-requires : tie.Need-plan-requires Inv-loop μ-loop
+plan-requires c κs = search needs
+
+node-of-requires : tie.Need-node-of-requires Inv-loop μ-loop
+node-of-requires c κs = search needs
+
+mul-nodes : tie.Need-mul-nodes Inv-loop μ-loop
+mul-nodes c = search needs
+
+array-set-from-nodes : tie.Need-array-set-from-nodes Inv-loop μ-loop
+array-set-from-nodes c = search needs
+
+array-write-won : tie.Need-array-write-won Inv-loop μ-loop
+array-write-won c = search needs
+
+array-write-pending : tie.Need-array-write-pending Inv-loop μ-loop
+array-write-pending c = search needs
+
+array-write-holder : tie.Need-array-write-holder Inv-loop μ-loop
+array-write-holder c = search needs
+
+array-write-misled : tie.Need-array-write-misled Inv-loop μ-loop
+array-write-misled c = search needs
+
+clear-won-requires : tie.Need-clear-won-requires Inv-loop μ-loop
+clear-won-requires c κs = search needs
+
+clear-misled-requires : tie.Need-clear-misled-requires Inv-loop μ-loop
+clear-misled-requires c κs = search needs
 
 add-index : tie.Need-add-index Inv-loop μ-loop
-add-index c = search needs
+add-index c = search (needs, c .before .before .before .before .before .before .before .before .before .before .before .before .before .before .before .before .before .before .before .pre, c .before .before .before .before .before .before .before .before .before .before .before .before .loop .inv .0, c .before .before .before .before .before .before .before .before .before .before .before .before .loop .inv .1, c .before .before .before .before .before .before .before .before .before .before .before .loop-test .taken)
 
 put-refused-requires : tie.Need-put-refused-requires Inv-loop μ-loop
 put-refused-requires c κs = search needs
 
 returns : tie.Need-returns Inv-loop μ-loop
 returns c =
-    let a = c .before .before .before .before .before .before .before .before .before .before .before .args in
-    let l = c .before .before .before .before .before .before .before .before .before .loop in
-    let act = c .before .before .before .before .before .before .read-action .result in
-    let r = c .before .before .before .before .before .advance .result in
-    let read : act ≡ actionAt (drop (14 + 16 * l .k) (a .piece .now)) = rw tail-part at (c .before .before .before .before .before .before .read-action .ensures) in
-    let turn = rw (left-more (a .count) (l .k) (a .piece .now) (omega arith), ← read, ← c .before .before .before .before .before .advance .ensures) at (l .inv .3) in
+    let a = c .before .before .before .before .before .before .before .before .before .before .before .before .before .before .before .before .before .before .before .before .before .before .before .args in
+    let l = c .before .before .before .before .before .before .before .before .before .before .before .before .before .before .before .before .loop in
+    let act = c .before .before .before .before .before .before .before .before .before .before .before .before .before .read-action .result in
+    let aim = c .before .before .before .before .before .before .before .before .before .before .before .before .aim in
+    let cell = c .before .before .before .before .before .before .before .before .before .cell-of in
+    let plan = c .before .before .before .before .before .before .before .before .plan in
+    let p = plan .result in
+    let i = aim .result .node in
+    let b = busOf (a .b .n) (l .phase) (l .nodes) (l .won) (l .pending) (l .holder) (l .misled) in
+    let v = c .before .before .before .before .before .before .node-of in
+    let won = c .before .before .before .before .before .clear-won in
+    let misled = c .before .before .before .before .clear-misled in
+    let sized : Sized b = l .inv .4 in
+    let is-plan = plan .ensures ∙ ap (tried (b .n) (b .phase) i (cell .result) (mark (b .won)) (mark (b .pending)) (mark (b .holder))) (aim .ensures .0) in
+    let then = busOf (b .n) (p .phase) (set (b .nodes) i (v .result)) (won .result) (set (b .pending) i (p .cell .pending)) (set (b .holder) i (p .cell .holder)) (misled .result) in
+    let r : Played = record { number = p .number; report = p .report; bus = then } in
+    let step : seen r ≡ advanceOf (view b) act = in-place b act i (cell .result) p sized (aim .ensures .1 .1) (aim .ensures .1 .0) (cell .ensures) is-plan (v .result) (won .result) (misled .result) (v .ensures) (won .ensures) (misled .ensures) in
+    let read : act ≡ actionAt (drop (14 + 16 * l .k) (a .piece .now)) = rw tail-part at (c .before .before .before .before .before .before .before .before .before .before .before .before .before .read-action .ensures) in
+    let more = c .before .before .before .before .before .before .before .before .before .before .before .before .before .before .before .loop-test .taken in
+    let given = c .before .before .before .before .before .before .before .before .before .before .before .before .before .before .before .before .before .before .before .before .before .before .before .pre in
+    let turn = rw (left-more (a .count) (l .k) (a .piece .now) (omega (arith, more, l .inv .1)), ← read, ← step) at (l .inv .3) in
     let put = c .put-refused .ensures in
-    let long : length (l .out) ≡ 2048 = search needs in
-    let more = c .before .before .before .before .before .before .before .before .loop-test .taken in
-    let given = c .before .before .before .before .before .before .before .before .before .before .before .pre in
+    let long : length (l .out) ≡ 2048 = search (needs, c .before .put-refused-arg .given) in
     let line = puts-line {buf = l .out} {at = l .end} {text = refusedLine (a .first + l .k) (r .number)} (omega (arith, l .inv .1, l .inv .2)) (put .1 .0) (put .1 .1) in
     let later = partOf (left (a .count) (l .k + 1) (a .piece .now)) (view (r .bus)) (suc (a .first + l .k)) in
     let all = stop (a .first + l .k) (act .kind) (seen r) later turn (ne-eqb (r .number) 0 (c .before .before .if1 .taken)) line in
@@ -77,35 +162,50 @@ put-line-requires : tie.Need-put-line-requires Inv-loop μ-loop
 put-line-requires c κs = search needs
 
 add-k : tie.Need-add-k Inv-loop μ-loop
-add-k c = search needs
+add-k c = search (needs, c .before .before .before .before .before .before .before .before .before .before .before .before .before .before .before .before .before .before .before .before .before .before .before .pre, c .before .before .before .before .before .before .before .before .before .before .before .before .before .before .before .before .loop .inv .1, c .before .before .before .before .before .before .before .before .before .before .before .before .before .before .before .loop-test .taken)
 
 loop-less : tie.Need-loop-less Inv-loop μ-loop
-loop-less c = search needs
+loop-less c = search (needs, c .before .before .before .before .before .before .before .before .before .before .before .before .before .before .before .loop-test .taken)
 
 loop-again : tie.Need-loop-again Inv-loop μ-loop
 loop-again c =
-    let a = c .before .before .before .before .before .before .before .before .before .before .before .args in
-    let l = c .before .before .before .before .before .before .before .before .before .loop in
-    let act = c .before .before .before .before .before .before .read-action .result in
-    let r = c .before .before .before .before .before .advance .result in
-    let read : act ≡ actionAt (drop (14 + 16 * l .k) (a .piece .now)) = rw tail-part at (c .before .before .before .before .before .before .read-action .ensures) in
-    let turn = rw (left-more (a .count) (l .k) (a .piece .now) (omega arith), ← read, ← c .before .before .before .before .before .advance .ensures) at (l .inv .3) in
+    let a = c .before .before .before .before .before .before .before .before .before .before .before .before .before .before .before .before .before .before .before .before .before .before .before .args in
+    let l = c .before .before .before .before .before .before .before .before .before .before .before .before .before .before .before .before .loop in
+    let act = c .before .before .before .before .before .before .before .before .before .before .before .before .before .read-action .result in
+    let aim = c .before .before .before .before .before .before .before .before .before .before .before .before .aim in
+    let cell = c .before .before .before .before .before .before .before .before .before .cell-of in
+    let plan = c .before .before .before .before .before .before .before .before .plan in
+    let p = plan .result in
+    let i = aim .result .node in
+    let b = busOf (a .b .n) (l .phase) (l .nodes) (l .won) (l .pending) (l .holder) (l .misled) in
+    let v = c .before .before .before .before .before .before .node-of in
+    let won = c .before .before .before .before .before .clear-won in
+    let misled = c .before .before .before .before .clear-misled in
+    let sized : Sized b = l .inv .4 in
+    let is-plan = plan .ensures ∙ ap (tried (b .n) (b .phase) i (cell .result) (mark (b .won)) (mark (b .pending)) (mark (b .holder))) (aim .ensures .0) in
+    let then = busOf (b .n) (p .phase) (set (b .nodes) i (v .result)) (won .result) (set (b .pending) i (p .cell .pending)) (set (b .holder) i (p .cell .holder)) (misled .result) in
+    let r : Played = record { number = p .number; report = p .report; bus = then } in
+    let step : seen r ≡ advanceOf (view b) act = in-place b act i (cell .result) p sized (aim .ensures .1 .1) (aim .ensures .1 .0) (cell .ensures) is-plan (v .result) (won .result) (misled .result) (v .ensures) (won .ensures) (misled .ensures) in
+    let read : act ≡ actionAt (drop (14 + 16 * l .k) (a .piece .now)) = rw tail-part at (c .before .before .before .before .before .before .before .before .before .before .before .before .before .read-action .ensures) in
+    let more = c .before .before .before .before .before .before .before .before .before .before .before .before .before .before .before .loop-test .taken in
+    let given = c .before .before .before .before .before .before .before .before .before .before .before .before .before .before .before .before .before .before .before .before .before .before .before .pre in
+    let turn = rw (left-more (a .count) (l .k) (a .piece .now) (omega (arith, more, l .inv .1)), ← read, ← step) at (l .inv .3) in
     let put = c .put-line .ensures in
-    let long : length (l .out) ≡ 2048 = search needs in
-    let more = c .before .before .before .before .before .before .before .before .loop-test .taken in
-    let given = c .before .before .before .before .before .before .before .before .before .before .before .pre in
+    let long : length (l .out) ≡ 2048 = search (needs, c .before .put-line-arg .given) in
     let line = puts-line {buf = l .out} {at = l .end} {text = lineOf (a .first + l .k) (act .kind) (r .report)} (omega (arith, l .inv .1, l .inv .2)) (put .1 .0) (put .1 .1) in
     let later = partOf (left (a .count) (l .k + 1) (a .piece .now)) (view (r .bus)) (suc (a .first + l .k)) in
-    let next : suc (a .first + l .k) ≡ a .first + (l .k + 1) = omega arith in (
-      search needs,
-      search needs,
-      search needs,
+    let next : suc (a .first + l .k) ≡ a .first + (l .k + 1) = omega arith in
+    let sizes : Sized then = record { nodes-size = length-set (b .nodes) i (v .result) ∙ sized .nodes-size; won-size = search (needs, won .ok); pending-size = length-set (b .pending) i (p .cell .pending) ∙ sized .pending-size; holder-size = length-set (b .holder) i (p .cell .holder) ∙ sized .holder-size; misled-size = search (needs, misled .ok) } in (
+      search (needs, more),
+      search (needs, l .inv .1),
+      omega (arith, put .0, l .inv .2),
       rw (← next) (go-on (a .first + l .k) (act .kind) (seen r) later turn (eq-eqb (r .number) 0 (c .before .before .if1 .left)) line),
+      sizes,
     )
 
 returns-2 : tie.Need-returns-2 Inv-loop μ-loop
 returns-2 c =
-    let a = c .before .before .before .args in
+    let a = c .before .before .before .before .before .before .before .before .args in
     let l = c .before .loop in
     let all = ends (rw (left-none (a .count) (l .k) (a .piece .now) (omega arith)) at (l .inv .3)) in
     (omega arith, record { puts = all .text-put; leaves = all .last-state; stops = all .stopped })
@@ -123,7 +223,25 @@ play-actions-spec =
     part-read-action-start
     part-read-action-end
     read-action-requires
-    advance-requires
+    aim-requires
+    cast-i
+    mul-node
+    array-copy-out-node
+    array-read-cell-of
+    array-read-cell-of-2
+    array-read-cell-of-3
+    array-read-cell-of-4
+    cell-of-requires
+    plan-requires
+    node-of-requires
+    mul-nodes
+    array-set-from-nodes
+    array-write-won
+    array-write-pending
+    array-write-holder
+    array-write-misled
+    clear-won-requires
+    clear-misled-requires
     add-index
     put-refused-requires
     returns
