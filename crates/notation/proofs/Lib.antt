@@ -5,3 +5,5 @@ pub mod Figures
 pub mod Actions
 pub mod ComposerLaws
 pub mod Texts
+pub mod Blocks
+pub mod Whole

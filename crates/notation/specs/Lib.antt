@@ -5,3 +5,4 @@ pub mod Printed
 pub mod Lines
 pub mod Composer
 pub mod Meaning
+pub mod Composed

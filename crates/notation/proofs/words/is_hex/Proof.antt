@@ -17,7 +17,7 @@ shared-slice-read-result : tie.Need-shared-slice-read-result
 shared-slice-read-result c = search needs
 
 returns-3 : tie.Need-returns-3
-returns-3 c = simp (eq-eqb _ _ (c .before .before .if1 .left), le-ltb _ _ (c .before .if2 .left))
+returns-3 c = simp (eq-eqb _ _ (c .before .before .if1 .left))
 
 pub is-hex-spec : {M : Type 1} → statement M
 is-hex-spec =
