@@ -1,65 +1,20 @@
-// One block of a file: looked at, announced, and its actions played.
+// One block of a file: what it prints before its actions, the bus that they find, and the actions played.
 ghost use mathlib.Core.Path.{_≡_};
 ghost use mathlib.Core.List.{_∷_, []};
 ghost use Prim.Native.Nat.{_+_, _*_, _≤_};
 ghost use lib.ListN.{length};
 ghost use Rattle.charts.specs.View.{view};
-ghost use Rattle.runfile.specs.Block.{blockFits};
 ghost use Rattle.transcript.specs.Room.{Puts};
-ghost use Rattle.player.specs.Feeding.{lookOf, refusalOf, headingOf, partOf, Plays};
+ghost use Rattle.walk.specs.Feeding.{headingOf, openingOf};
+ghost use Rattle.player.specs.Feeding.{advancing, partOf, Plays};
 ghost use Rattle.player.specs.Printed.{actionsIn};
-use crate::Stage;
-use crate::stages;
 use charts::Bus;
-use runfile::BlockHead;
-
-pub(crate) const WRONG_LENGTH: u8 = 8;
-
-const WRONG_ORDER: u8 = 10;
-
-const WRONG_COUNT: u8 = 11;
-
-// The piece looked at by 8, 9, 1, 10, 11; m is block 0's n.
-pub(crate) fn look(stage: Stage, m: u8, piece: &[u8]) -> BlockHead
-    ensures { λ r. ⌜ r ≡ lookOf stage m (now (piece .entry)) ⌝ }
-    ensures { λ r. ⌜ blockFits (now (piece .entry)) r ⌝ }
-{
-    let head = runfile::read_head(piece);
-    let BlockHead::Holds {
-        number,
-        count: _,
-        n,
-    } = head
-    else {
-        return head;
-    };
-    if !stages::is_next(stage, m, number, n) {
-        return BlockHead::Refused(WRONG_ORDER);
-    }
-    if !runfile::count_fits(piece) {
-        return BlockHead::Refused(WRONG_COUNT);
-    }
-    head
-}
-
-// The number of a refused head.
-pub(crate) fn refusal(head: BlockHead) -> u8
-    ensures { λ r. ⌜ r ≡ refusalOf head ⌝ }
-{
-    match head {
-        BlockHead::Refused(k) => k,
-        BlockHead::Holds {
-            number: _,
-            count: _,
-            n: _,
-        } => 0,
-    }
-}
+use runfile::order::Stage;
 
 // "`nodes` is printed once block 0 is accepted"
 pub(crate) fn put_heading(stage: Stage, n: u8, out: &mut [u8; 2048]) -> usize
     ensures { λ r. ⌜ r ≤ 64 ⌝ }
-    ensures { λ r. ⌜ Puts (now (out .entry)) 0 (headingOf stage n) r (now (out .exit)) ⌝ }
+    ensures { λ r. ⌜ Puts (now (out .entry)) 0 (headingOf advancing stage n) r (now (out .exit)) ⌝ }
 {
     match stage {
         Stage::Unopened => transcript::put_nodes(out, 0, n),
@@ -68,6 +23,23 @@ pub(crate) fn put_heading(stage: Stage, n: u8, out: &mut [u8; 2048]) -> usize
             count: _,
         } => 0,
         Stage::Ended => 0,
+    }
+}
+
+// The bus that a block's actions find: a fresh one for block 0.
+pub(crate) fn opening(stage: Stage, b: Bus, n: u8) -> Bus
+    ensures { λ r. ⌜ view r ≡ openingOf advancing stage n (view b) ⌝ }
+{
+    match stage {
+        Stage::Unopened => {
+            let begun = bus::fresh(n);
+            begun.bus
+        }
+        Stage::After {
+            number: _,
+            count: _,
+        } => b,
+        Stage::Ended => b,
     }
 }
 

@@ -1,23 +1,21 @@
 // Plays a run file block by block: each piece of 512 bytes that it is fed becomes text in a buffer that the caller lends.
 mod block;
-mod stages;
 
 ghost use mathlib.Core.Path.{_≡_};
 ghost use Prim.Native.Nat.{_≤_};
 ghost use lib.ListN.{length};
 ghost use Rattle.transcript.specs.Room.{put};
-ghost use Rattle.player.specs.Feeding.{seen, isEnded, started, feedOf, finishOf};
+ghost use Rattle.runfile.specs.Order.{isEnded};
+ghost use Rattle.walk.specs.Feeding.{feedOf, finishOf};
+ghost use Rattle.player.specs.Feeding.{seen, advancing, started};
 use charts::Bus;
 use runfile::BlockHead;
+use runfile::order;
+use runfile::order::Stage;
 
-// How far a file has been played: before block 0, after a block (its number and its count), or to its end by a refusal.
-pub enum Stage {
-    Unopened,
-    After { number: u32, count: u8 },
-    Ended,
-}
+const WRONG_LENGTH: u8 = 8;
 
-// The player between two pieces.
+// The player between two pieces: the bus, and how far the file has been played.
 pub struct Player {
     pub bus: Bus,
     pub stage: Stage,
@@ -45,23 +43,23 @@ pub fn start() -> Player
 // Plays a piece of a file. Its text stands at the start of `out`.
 pub fn feed(p: Player, piece: &[u8], out: &mut [u8; 2048]) -> Fed
     ensures { λ r. ⌜ r .end ≤ 2048 ⌝ }
-    ensures { λ r. ⌜ r .end ≡ length (feedOf (seen p) (now (piece .entry)) .text) ⌝ }
-    ensures { λ _. ⌜ now (out .exit) ≡ put (now (out .entry)) 0 (feedOf (seen p) (now (piece .entry)) .text) ⌝ }
-    ensures { λ r. ⌜ seen (r .player) ≡ feedOf (seen p) (now (piece .entry)) .after ⌝ }
+    ensures { λ r. ⌜ r .end ≡ length (feedOf advancing (seen p) (now (piece .entry)) .text) ⌝ }
+    ensures { λ _. ⌜ now (out .exit) ≡ put (now (out .entry)) 0 (feedOf advancing (seen p) (now (piece .entry)) .text) ⌝ }
+    ensures { λ r. ⌜ seen (r .player) ≡ feedOf advancing (seen p) (now (piece .entry)) .after ⌝ }
     ensures { λ r. ⌜ r .ended ≡ isEnded (r .player .stage) ⌝ }
 {
     let stage = p.stage;
     let bus = p.bus;
-    if stages::is_ended(stage) {
+    if order::is_ended(stage) {
         return Fed {
             player: p,
             end: 0,
             ended: true,
         };
     }
-    let head = block::look(stage, bus.n, piece);
+    let head = order::look(stage, bus.n, piece);
     let BlockHead::Holds { number, count, n } = head else {
-        let end = transcript::put_refused(out, 0, stages::accepted_by(stage), block::refusal(head));
+        let end = transcript::put_refused(out, 0, order::accepted_by(stage), order::refusal(head));
         return Fed {
             player: Player {
                 bus: bus,
@@ -73,10 +71,10 @@ pub fn feed(p: Player, piece: &[u8], out: &mut [u8; 2048]) -> Fed
     };
     let at = block::put_heading(stage, n, out);
     let part = block::play_actions(
-        stages::opening(stage, bus, n),
+        block::opening(stage, bus, n),
         piece,
         count,
-        stages::accepted_by(stage),
+        order::accepted_by(stage),
         out,
         at,
     );
@@ -84,7 +82,7 @@ pub fn feed(p: Player, piece: &[u8], out: &mut [u8; 2048]) -> Fed
     Fed {
         player: Player {
             bus: after,
-            stage: stages::stage_after(part.ended, number, count),
+            stage: order::stage_after(part.ended, number, count),
         },
         end: part.end,
         ended: part.ended,
@@ -94,16 +92,16 @@ pub fn feed(p: Player, piece: &[u8], out: &mut [u8; 2048]) -> Fed
 // The file's end. Its text stands at the start of `out`; the answer is its length.
 pub fn finish(p: Player, out: &mut [u8; 2048]) -> usize
     ensures { λ r. ⌜ r ≤ 2048 ⌝ }
-    ensures { λ r. ⌜ r ≡ length (finishOf (p .stage)) ⌝ }
-    ensures { λ _. ⌜ now (out .exit) ≡ put (now (out .entry)) 0 (finishOf (p .stage)) ⌝ }
+    ensures { λ r. ⌜ r ≡ length (finishOf advancing (p .stage)) ⌝ }
+    ensures { λ _. ⌜ now (out .exit) ≡ put (now (out .entry)) 0 (finishOf advancing (p .stage)) ⌝ }
 {
     let stage = p.stage;
     match stage {
-        Stage::Unopened => transcript::put_refused(out, 0, 0, block::WRONG_LENGTH),
+        Stage::Unopened => transcript::put_refused(out, 0, 0, WRONG_LENGTH),
         Stage::After {
             number: _,
             count: _,
-        } => transcript::put_done(out, 0, stages::accepted_by(stage)),
+        } => transcript::put_done(out, 0, order::accepted_by(stage)),
         Stage::Ended => 0,
     }
 }

@@ -6,3 +6,5 @@ pub mod Accepted
 pub mod Lists
 pub mod Files
 pub mod Cases
+pub mod Pieces
+pub mod Stages

@@ -1,3 +1,5 @@
 pub mod Block
 pub mod Write
 pub mod File
+pub mod Pieces
+pub mod Order

@@ -5,8 +5,10 @@ use mathlib.Core.Path.{_≡_, refl, sym, ap, _∙_}
 use native.Mathlib.Omega.{arith}
 use lib.ListN.{length}
 use Rattle.transcript.proofs.Rooms.{puts-line}
-use Rattle.player.specs.Feeding.{seen, stageAfter}
-use Rattle.player.proofs.Pieces.{fed-ended, fed-refused, fed-played, ended-after}
+use Rattle.runfile.specs.Order.{stageAfter}
+use Rattle.runfile.proofs.Stages.{ended-after}
+use Rattle.walk.proofs.Fed.{fed-ended, fed-refused, fed-played}
+use Rattle.player.specs.Feeding.{seen, advancing}
 use borrow.Author.Needs.{needs}
 use Rattle.player.proofs.feed.Statement.{statement}
 use Rattle.player.proofs.feed.Tie as tie
@@ -18,7 +20,7 @@ returns : tie.Need-returns
 returns c =
     let a = c .before .before .before .before .args in
     let ended = sym (c .before .is-ended .ensures) ∙ c .if1 .taken in
-    let fed = fed-ended (seen (a .p)) (a .piece .now) (a .out .now) ended in
+    let fed = fed-ended advancing (seen (a .p)) (a .piece .now) (a .out .now) ended in
     (omega arith, (fed .0, (fed .1 .0, (fed .1 .1, sym ended))))
 
 look-requires : tie.Need-look-requires
@@ -50,7 +52,7 @@ returns-2 c =
     let line = puts-line {buf = a .out .now} {at = 0} {text = refusedLine (c .before .before .accepted-by .result) (c .before .refusal .result)} (omega arith) (put .1 .0) (put .1 .1) in
     let number = rw (told .1) at (c .before .refusal .ensures) in
     let text = rw (c .before .before .accepted-by .ensures .1, number) at line in
-    let fed = fed-refused (seen (a .p)) (a .piece .now) (a .out .now) (told .0 .0) going (sym (c .before .before .before .before .before .before .look .ensures .0) ∙ told .1) text in
+    let fed = fed-refused advancing (seen (a .p)) (a .piece .now) (a .out .now) (told .0 .0) going (sym (c .before .before .before .before .before .before .look .ensures .0) ∙ told .1) text in
     (omega arith, (fed .0, (fed .1 .0, (fed .1 .1, refl))))
 
 put-heading-requires : tie.Need-put-heading-requires
@@ -83,7 +85,7 @@ returns-3 c =
     let part = c .before .before .play-actions .ensures in
     let plays = rw (c .before .before .before .before .before .opening .ensures, c .before .before .before .before .accepted-by2 .ensures .1) at (part .1) in
     let stage = c .stage-after .ensures in
-    let fed = fed-played (seen (a .p)) (a .piece .now) (a .out .now) number count n going (sym (looked .0) ∙ is) (c .before .before .before .before .before .before .put-heading .ensures .1)
+    let fed = fed-played advancing (seen (a .p)) (a .piece .now) (a .out .now) number count n going (sym (looked .0) ∙ is) (c .before .before .before .before .before .before .put-heading .ensures .1)
     (plays .puts) (plays .leaves) (stage ∙ ap (λ (b : Bool). stageAfter b number count) (plays .stops)) in
     (part .0, (fed .0, (fed .1 .0, (fed .1 .1, rw stage (sym (ended-after _ _ _))))))
 

@@ -1,5 +1,5 @@
 use Rattle.transcript.specs.Lines.{doneLine, refusedLine}
-use Rattle.player.specs.Feeding.{finishOf}
+use Rattle.walk.specs.Feeding.{finishOf}
 use mathlib.Core.Path.{_≡_, refl, _∙_}
 use native.Mathlib.Nat.{zero-add}
 use native.Mathlib.Omega.{arith}

@@ -1,7 +1,8 @@
 use mathlib.Core.Path.{ap}
 use Rattle.charts.specs.Step.{Result, begin}
-use Rattle.player.specs.declared.Stage.the-variants.{Unopened}
-use Rattle.player.specs.Feeding.{Playing}
+use Rattle.runfile.specs.declared.order.Stage.the-variants.{Unopened}
+use Rattle.charts.specs.State.{State}
+use Rattle.walk.specs.Feeding.{Walking}
 use borrow.Author.Needs.{needs}
 use Rattle.player.proofs.start.Statement.{statement}
 use Rattle.player.proofs.start.Tie as tie
@@ -9,7 +10,7 @@ use Rattle.player.proofs.start.Tie as tie
 fresh-requires : tie.Need-fresh-requires
 fresh-requires c κs = search needs
 
-abbrev opened : Result → Playing
+abbrev opened : Result → Walking State
 opened r = record { state = r .state; stage = Unopened }
 
 returns : tie.Need-returns

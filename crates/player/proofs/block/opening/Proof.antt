@@ -1,6 +1,6 @@
 use borrow.Author.Needs.{needs}
-use Rattle.player.proofs.stages.opening.Statement.{statement}
-use Rattle.player.proofs.stages.opening.Tie as tie
+use Rattle.player.proofs.block.opening.Statement.{statement}
+use Rattle.player.proofs.block.opening.Tie as tie
 
 enum-told : tie.Need-enum-told
 enum-told c = search needs

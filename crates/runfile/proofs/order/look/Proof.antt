@@ -1,9 +1,9 @@
 use native.Mathlib.Omega.{arith}
 use borrow.Author.Tests.{not-false}
-use Rattle.player.specs.Feeding.{lookOf}
+use Rattle.runfile.specs.Order.{lookOf}
 use borrow.Author.Needs.{needs}
-use Rattle.player.proofs.block.look.Statement.{statement}
-use Rattle.player.proofs.block.look.Tie as tie
+use Rattle.runfile.proofs.order.look.Statement.{statement}
+use Rattle.runfile.proofs.order.look.Tie as tie
 
 read-head-requires : tie.Need-read-head-requires
 read-head-requires c κs = search needs

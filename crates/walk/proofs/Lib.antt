@@ -1,0 +1,4 @@
+pub mod Loop
+pub mod Fed
+pub mod Whole
+pub mod Files

@@ -1,0 +1,80 @@
+-- A walk piece by piece: what a piece of a file gives, and the file's end.
+use mathlib.Core.Bool.{Bool, true, false, cond}
+use mathlib.Core.List.{List, [], _∷_, _++_}
+use Prim.Native.Nat.{ℕ, suc}
+use Rattle.charts.specs.declared.Action.{Action}
+use Rattle.charts.specs.Numbers as N
+use Rattle.runfile.specs.declared.BlockHead.{BlockHead}
+use Rattle.runfile.specs.declared.BlockHead.the-variants.{Holds, Refused}
+use Rattle.runfile.specs.declared.order.Stage.{Stage}
+use Rattle.runfile.specs.declared.order.Stage.the-variants.{Unopened, After, Ended}
+use Rattle.runfile.specs.Order.{isEnded, acceptedBy, lookOf, stageAfter}
+use Rattle.runfile.specs.Pieces.{actionsIn}
+use Rattle.transcript.specs.Lines.{refusedLine}
+use Rattle.walk.specs.Walk.{Turn, isTaken, Walker}
+
+-- a walk between two pieces
+pub record Walking (S : Type 0) : Type 0 where
+  pub state : S
+  pub stage : Stage
+
+-- block 0 prints the heading and has a state of its own
+abbrev pub headingOf : {S : Type 0} → Walker S → Stage → ℕ → List ℕ
+headingOf w Unopened n = w .heading n
+headingOf w (After i c) n = []
+headingOf w Ended n = []
+
+abbrev pub openingOf : {S : Type 0} → Walker S → Stage → ℕ → S → S
+openingOf w Unopened n s = w .opening n
+openingOf w (After i c) n s = s
+openingOf w Ended n s = s
+
+-- what the actions of a block give: their text, the state after them, and whether one of them was refused
+pub record Part (S : Type 0) : Type 0 where
+  pub text : List ℕ
+  pub state : S
+  pub ended : Bool
+
+abbrev pub lineThen : {S : Type 0} → List ℕ → Part S → Part S
+lineThen t p = record { text = t ++ p .text; state = p .state; ended = p .ended }
+
+abbrev pub turnOf : {S : Type 0} → ℕ → Turn S → Part S → Part S
+turnOf i t later =
+    cond (isTaken t) (lineThen (t .line) later)
+    (record { text = refusedLine i (t .number); state = t .state; ended = true })
+
+abbrev pub partOf : {S : Type 0} → Walker S → List Action → S → ℕ → Part S
+partOf w [] s i = record { text = []; state = s; ended = false }
+partOf w (a ∷ l) s i = turnOf i (w .turn i a s) (partOf w l (w .turn i a s .state) (suc i))
+
+-- what a piece gives: its text, and the walk after it
+pub record Gives (S : Type 0) : Type 0 where
+  pub text : List ℕ
+  pub after : Walking S
+
+abbrev pub partGives : {S : Type 0} → List ℕ → ℕ → ℕ → Part S → Gives S
+partGives t number count p =
+    record { text = t ++ p .text; after = record { state = p .state; stage = stageAfter (p .ended) number count } }
+
+abbrev pub blockGives : {S : Type 0} → Walker S → Stage → S → List ℕ → BlockHead → Gives S
+blockGives w g s piece (Refused k) =
+    record { text = refusedLine (acceptedBy g) k; after = record { state = s; stage = Ended } }
+blockGives w g s piece (Holds number count n) =
+    partGives (headingOf w g n) number count (partOf w (actionsIn count piece) (openingOf w g n s) (acceptedBy g))
+
+-- a walk that a refusal has ended prints nothing more
+unfoldable pub feedOf : {S : Type 0} → Walker S → Walking S → List ℕ → Gives S
+feedOf w p piece =
+    cond (isEnded (p .stage)) (record { text = []; after = p })
+    (blockGives w (p .stage) (p .state) piece (lookOf (p .stage) (w .nodes (p .state)) piece))
+
+-- the text at the file's end; "an empty file" is 8
+unfoldable pub finishOf : {S : Type 0} → Walker S → Stage → List ℕ
+finishOf w Unopened = refusedLine 0 N.wrong-length
+finishOf w (After i c) = w .done (acceptedBy (After i c))
+finishOf w Ended = []
+
+-- what is printed of pieces fed one after the other, and then of the file's end
+abbrev pub fedText : {S : Type 0} → Walker S → List (List ℕ) → Walking S → List ℕ
+fedText w [] p = finishOf w (p .stage)
+fedText w (b ∷ l) p = feedOf w p b .text ++ fedText w l (feedOf w p b .after)
