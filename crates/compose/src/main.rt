@@ -5,9 +5,9 @@ ghost use lib.ListN.{length};
 use libc::STDERR_FILENO;
 use libc::STDIN_FILENO;
 use libc::STDOUT_FILENO;
-use notation::Fault;
 use notation::composer::Composer;
 use notation::composer::Stage;
+use transcript::Fault;
 
 const NEWLINE: u8 = 10;
 
@@ -147,7 +147,7 @@ fn report(c: Composer) {
 fn report_fault(line: u64, fault: Fault, text: &mut [u8])
     requires { ⌜ length (now text) ≡ 64 ⌝ }
 {
-    let n = notation::print_fault(text, 0, line, fault);
+    let n = transcript::put_fault(text, 0, line, fault);
     io::write_all(STDERR_FILENO, &text[..n]);
 }
 

@@ -1,5 +1,4 @@
 pub mod WordLaws
-pub mod PrintLaws
 pub mod Spaced
 pub mod Figures
 pub mod Actions

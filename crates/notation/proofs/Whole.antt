@@ -19,8 +19,8 @@ use Rattle.record.specs.Layout.{blank, recordsOf}
 use Rattle.runfile.specs.Write.{writeNumber, blockOf}
 use Rattle.runfile.specs.File.{blocksFor, fileFrom, fileOf, Taken, OneFile}
 use Rattle.runfile.proofs.Files.{one-file}
-use Rattle.notation.specs.declared.Fault.{Fault}
-use Rattle.notation.specs.declared.Fault.the-variants as F
+use Rattle.transcript.specs.declared.Fault.{Fault}
+use Rattle.transcript.specs.declared.Fault.the-variants as F
 use Rattle.notation.specs.declared.Line.{Line}
 use Rattle.notation.specs.declared.Line.the-variants as L
 use Rattle.notation.specs.declared.composer.Stage.the-variants.{Going}

@@ -1,7 +1,6 @@
 pub mod Words
 pub mod Cursors
 pub mod Grammar
-pub mod Printed
 pub mod Lines
 pub mod Composer
 pub mod Meaning

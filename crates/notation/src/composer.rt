@@ -7,10 +7,10 @@ ghost use Rattle.charts.specs.Valid.{isSize};
 ghost use Rattle.record.specs.Layout.{blank};
 ghost use Rattle.notation.specs.Composer.{isStopped, stopped, onLine, forNodes, toPut, counted, nodesTaken, actionTaken, lineTaken, feedOf};
 ghost use Rattle.notation.specs.Composer.{withBlock, flushOf, heldAfter, putOf, putHeld, usedBy, finishOf, finishHeld, startOf};
-use crate::Fault;
 use crate::Line;
 use charts::Action;
 use charts::Decoded;
+use transcript::Fault;
 
 const WRONG_SIZE: u8 = 1;
 
