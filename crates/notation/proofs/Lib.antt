@@ -2,7 +2,5 @@ pub mod WordLaws
 pub mod Spaced
 pub mod Figures
 pub mod Actions
-pub mod ComposerLaws
 pub mod Texts
-pub mod Blocks
-pub mod Whole
+pub mod Fitting

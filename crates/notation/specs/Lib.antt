@@ -2,6 +2,4 @@ pub mod Words
 pub mod Cursors
 pub mod Grammar
 pub mod Lines
-pub mod Composer
 pub mod Meaning
-pub mod Composed

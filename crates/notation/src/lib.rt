@@ -1,5 +1,4 @@
 // Runs in plain words: the lines that people write, read.
-pub mod composer;
 mod grammar;
 mod words;
 
