@@ -2,12 +2,12 @@
 ghost use mathlib.Core.Path.{_≡_};
 ghost use Prim.Native.Nat.{_≤_};
 ghost use lib.ListN.{length};
+use composer::Composer;
+use composer::Stage;
 use libc::STDERR_FILENO;
 use libc::STDIN_FILENO;
 use libc::STDOUT_FILENO;
-use notation::Fault;
-use notation::composer::Composer;
-use notation::composer::Stage;
+use transcript::Fault;
 
 const NEWLINE: u8 = 10;
 
@@ -28,7 +28,7 @@ fn settle(c: Composer) -> Composer {
     let mut block = [0u8; 512];
     let mut left = c.left;
     while 0 < left {
-        let w = notation::composer::put(d, &mut block);
+        let w = composer::put(d, &mut block);
         d = w.composer;
         if w.written {
             write_block(&block);
@@ -53,7 +53,7 @@ fn push(line: &mut [u8], len: usize, b: u8) -> usize
 fn end_line(c: Composer, line: &[u8], len: usize) -> Composer
     requires { ⌜ len ≤ length (now line) ⌝ }
 {
-    settle(notation::composer::feed(c, &line[..len]))
+    settle(composer::feed(c, &line[..len]))
 }
 
 // Takes the bytes of a part of the text.
@@ -92,7 +92,7 @@ fn read_some(r: Reading, line: &mut [u8]) -> Reading
     let taken = take_bytes(c, line, r.len, &buf[..n]);
     let d = taken.composer;
     let stage = d.stage;
-    if notation::composer::is_stopped(stage) {
+    if composer::is_stopped(stage) {
         return taken;
     }
     if n < buf.len() {
@@ -110,7 +110,7 @@ fn read_text(line: &mut [u8]) -> Reading
     ensures { λ r. ⌜ r .len ≤ length (now (line .exit)) ⌝ }
 {
     let mut r = Reading {
-        composer: notation::composer::start(),
+        composer: composer::start(),
         len: 0,
         more: true,
     };
@@ -147,14 +147,14 @@ fn report(c: Composer) {
 fn report_fault(line: u64, fault: Fault, text: &mut [u8])
     requires { ⌜ length (now text) ≡ 64 ⌝ }
 {
-    let n = notation::print_fault(text, 0, line, fault);
+    let n = transcript::put_fault(text, 0, line, fault);
     io::write_all(STDERR_FILENO, &text[..n]);
 }
 
 // Writes the last block, or says what is wrong.
 fn end(c: Composer) {
     let mut block = [0u8; 512];
-    let w = notation::composer::finish(c, &mut block);
+    let w = composer::finish(c, &mut block);
     if w.written {
         write_block(&block);
     }

@@ -131,7 +131,7 @@ fn put_actions(n: u8, piece: &[u8], count: u8, listed: u64, out: &mut [u8], at: 
                 ended: true,
             };
         };
-        end = notation::print_action(out, end, a);
+        end = transcript::put_action(out, end, a);
         k += 1;
     }
     Part {

@@ -22,7 +22,7 @@ use Rattle.notation.specs.declared.Line.the-variants.{Acts}
 use Rattle.notation.specs.Words.{tokenOf, nameOf, digitOf}
 use Rattle.notation.specs.Grammar.{recordOf, numberIn, addressIn, addressOrNone, holdIn, endingOf, requestOf, nodeOf, respondOf, changeOf, actionOf, namedOf, saidBy, lineOf}
 use Rattle.notation.specs.Lines.{spaced}
-use Rattle.notation.specs.Printed.{addressWord, holdWord, changeWord, wordsFor}
+use Rattle.transcript.specs.Printed.{addressWord, holdWord, changeWord, wordsFor}
 use Rattle.notation.proofs.Spaced.{Good, good-by, said-line}
 use Rattle.notation.proofs.Figures.{decimal-good, token-decimal}
 

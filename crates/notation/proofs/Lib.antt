@@ -1,9 +1,6 @@
 pub mod WordLaws
-pub mod PrintLaws
 pub mod Spaced
 pub mod Figures
 pub mod Actions
-pub mod ComposerLaws
 pub mod Texts
-pub mod Blocks
-pub mod Whole
+pub mod Fitting

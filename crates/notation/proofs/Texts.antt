@@ -18,7 +18,7 @@ use Rattle.notation.specs.declared.Line.the-variants.{Nodes}
 use Rattle.notation.specs.Words.{tokenOf, nameOf, digitOf}
 use Rattle.notation.specs.Grammar.{saidBy, namedOf, nodesOf, numberIn, lastOf, lineOf}
 use Rattle.notation.specs.Lines.{spaced}
-use Rattle.notation.specs.Printed.{addressWord, wordsFor, actionLine}
+use Rattle.transcript.specs.Printed.{addressWord, wordsFor, actionLine}
 use Rattle.notation.specs.Meaning.{run, linesFrom, linesOf, meaningFrom, endOn, meaningOf, actionLines, textOf, Accepts, AllAccepted}
 use Rattle.notation.proofs.Spaced.{Plain, Good, good-by, AllGood, said-line, line-spaced}
 use Rattle.notation.proofs.Figures.{decimal-good, token-decimal}

@@ -1,8 +1,5 @@
 pub mod Words
 pub mod Cursors
 pub mod Grammar
-pub mod Printed
 pub mod Lines
-pub mod Composer
 pub mod Meaning
-pub mod Composed

@@ -14,13 +14,13 @@ use Rattle.charts.specs.declared.Decoded.{Decoded}
 use Rattle.charts.specs.declared.Decoded.the-variants as D
 use Rattle.record.specs.Layout.{Fits}
 use Rattle.transcript.specs.Lines.{nodesLine}
-use Rattle.notation.specs.declared.Fault.{Fault}
-use Rattle.notation.specs.declared.Fault.the-variants.{NodesMissing, NodesAgain, NoAction, Refused}
+use Rattle.transcript.specs.declared.Fault.{Fault}
+use Rattle.transcript.specs.declared.Fault.the-variants.{NodesMissing, NodesAgain, NoAction, Refused}
 use Rattle.notation.specs.declared.Line.{Line}
 use Rattle.notation.specs.declared.Line.the-variants.{Blank, Nodes, Acts, Wrong}
 use Rattle.notation.specs.Words.{withWord}
 use Rattle.notation.specs.Grammar.{lineOf}
-use Rattle.notation.specs.Printed.{actionLine}
+use Rattle.transcript.specs.Printed.{actionLine}
 
 pub data Meaning : Type 0 where
   run : ℕ → List Action → Meaning

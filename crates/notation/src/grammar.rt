@@ -6,13 +6,13 @@ ghost use Rattle.notation.specs.Words.{tokensOf};
 ghost use Rattle.notation.specs.Cursors.{tokensLeft};
 ghost use Rattle.notation.specs.Grammar.{seen, faultOf, fieldFits, isWord, numeral, numberIn, addressAt, addressIn, addressOrNone, holdIn};
 ghost use Rattle.notation.specs.Grammar.{lastOf, repeatOf, endingOf, recordOf, requestOf, nodeOf, respondOf, changeOf, actionOf, nodesOf, namedOf, saidBy};
-use crate::Fault;
 use crate::Line;
 use crate::words;
 use crate::words::Cursor;
 use crate::words::Step;
 use crate::words::Token;
 use charts::Action;
+use transcript::Fault;
 
 const BYTE: u32 = 255;
 

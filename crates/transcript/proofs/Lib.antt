@@ -2,3 +2,4 @@ pub mod Puts
 pub mod Decimals
 pub mod Rooms
 pub mod Said
+pub mod PrintLaws

@@ -1,13 +1,32 @@
-// The lines of a run as text ("A run printed"), put into a buffer that the caller lends, from a place on.
+// The lines of a run as text ("A run printed"), of its actions and of what is wrong in a text, put into a buffer that the caller lends, from a place on.
 // Each function answers the place after its line. Where fewer than 64 bytes are left it puts nothing and answers the place it was given.
 mod text;
+mod words;
 
 ghost use mathlib.Core.Path.{_≡_};
 ghost use Prim.Native.Nat.{_+_, _≤_};
 ghost use lib.Dec.{leb};
 ghost use Rattle.transcript.specs.Lines.{lineOf, nodesLine, doneLine, refusedLine};
+ghost use Rattle.transcript.specs.Printed.{actionLine, faultLine};
 ghost use Rattle.transcript.specs.Room.{longest, endOf, putLine};
+use charts::Action;
 use charts::Report;
+
+// What is wrong in a line of a text or in a text. A refusal has the paper's number.
+pub enum Fault {
+    UnknownWord,
+    NotNumber,
+    TooLarge,
+    MissingField,
+    ExtraField,
+    NoRepeat,
+    LongLine,
+    NodesMissing,
+    NodesAgain,
+    NoAction,
+    TooMany,
+    Refused(u8),
+}
 
 const LONGEST: usize = 64;
 
@@ -81,4 +100,28 @@ pub fn put_refused(out: &mut [u8], at: usize, accepted: u64, number: u8) -> usiz
     let c = text::put_byte(out, b, b' ');
     let d = text::put_u8(out, c, number);
     text::put_byte(out, d, b'\n')
+}
+
+// An action in plain words, as `list` prints it.
+pub fn put_action(out: &mut [u8], at: usize, a: Action) -> usize
+    ensures { λ r. ⌜ r ≤ at + longest ⌝ }
+    ensures { λ r. ⌜ r ≡ endOf (now (out .entry)) at (actionLine a) ⌝ }
+    ensures { λ _. ⌜ now (out .exit) ≡ putLine (now (out .entry)) at (actionLine a) ⌝ }
+{
+    if !has_room(out.len(), at) {
+        return at;
+    }
+    words::put_action(out, at, a)
+}
+
+// What is wrong on a line of a text.
+pub fn put_fault(out: &mut [u8], at: usize, number: u64, fault: Fault) -> usize
+    ensures { λ r. ⌜ r ≤ at + longest ⌝ }
+    ensures { λ r. ⌜ r ≡ endOf (now (out .entry)) at (faultLine number fault) ⌝ }
+    ensures { λ _. ⌜ now (out .exit) ≡ putLine (now (out .entry)) at (faultLine number fault) ⌝ }
+{
+    if !has_room(out.len(), at) {
+        return at;
+    }
+    words::put_fault(out, at, number, fault)
 }

@@ -83,6 +83,17 @@ fn put_last(buf: &mut [u8], at: usize, x: u32) -> usize
     put_byte(buf, a, b'\n')
 }
 
+// A header and a datum as the line's last words.
+pub(crate) fn put_fields(buf: &mut [u8], at: usize, header: u32, datum: u32) -> usize
+    requires { ⌜ at + 22 ≤ length (now buf) ⌝ }
+    ensures { λ r. ⌜ r ≤ at + 22 ⌝ }
+    ensures { λ r. ⌜ Puts (now (buf .entry)) at (line (decimal header ∷ decimal datum ∷ [])) r (now (buf .exit)) ⌝ }
+{
+    let a = put_u32(buf, at, header);
+    let b = put_byte(buf, a, b' ');
+    put_last(buf, b, datum)
+}
+
 // "node and report" of a report with header and data.
 fn put_packet(buf: &mut [u8], at: usize, node: u8, word: &[u8], header: u32, datum: u32) -> usize
     requires { ⌜ at + 25 + length (now word) ≤ length (now buf) ⌝ }
@@ -90,9 +101,7 @@ fn put_packet(buf: &mut [u8], at: usize, node: u8, word: &[u8], header: u32, dat
     ensures { λ r. ⌜ Puts (now (buf .entry)) at (decimal node ++ (now (word .entry) ++ line (decimal header ∷ decimal datum ∷ []))) r (now (buf .exit)) ⌝ }
 {
     let a = put_node(buf, at, node, word);
-    let b = put_u32(buf, a, header);
-    let c = put_byte(buf, b, b' ');
-    put_last(buf, c, datum)
+    put_fields(buf, a, header, datum)
 }
 
 // "`-` or node and report", and the end of the line.

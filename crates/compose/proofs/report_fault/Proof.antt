@@ -4,8 +4,8 @@ use borrow.Author.Needs.{needs}
 use Rattle.compose.proofs.report_fault.Statement.{statement}
 use Rattle.compose.proofs.report_fault.Tie as tie
 
-print-fault-requires : tie.Need-print-fault-requires
-print-fault-requires c κs = search needs
+put-fault-requires : tie.Need-put-fault-requires
+put-fault-requires c κs = search needs
 
 slice-reshare-prefix-write-all : tie.Need-slice-reshare-prefix-write-all
 slice-reshare-prefix-write-all c = search needs
@@ -26,7 +26,7 @@ pub report-fault-spec : {M : Type 1} → statement M
 report-fault-spec =
     tie.close
     (tie.spec
-    print-fault-requires
+    put-fault-requires
     slice-reshare-prefix-write-all
     slice-aggregate-write-all
     write-all-requires

@@ -59,8 +59,8 @@ same-length c = search needs
 returns : tie.Need-returns Inv-loop μ-loop
 returns c = search needs
 
-print-action-requires : tie.Need-print-action-requires Inv-loop μ-loop
-print-action-requires c κs = search needs
+put-action-requires : tie.Need-put-action-requires Inv-loop μ-loop
+put-action-requires c κs = search needs
 
 add-k : tie.Need-add-k Inv-loop μ-loop
 add-k c = search needs
@@ -99,7 +99,7 @@ put-actions-spec =
     put-refused-requires
     same-length
     returns
-    print-action-requires
+    put-action-requires
     add-k
     loop-less
     loop-again

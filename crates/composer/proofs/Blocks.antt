@@ -1,0 +1,129 @@
+-- One action put into the block under way. Assumes nothing.
+use mathlib.Core.Path.{_≡_, refl, ap, ap₂, sym, _∙_}
+use mathlib.Core.Bool.{Bool, true, false, cond, not}
+use mathlib.Core.List.{List, [], _∷_, _++_, append-assoc, append-nil}
+use Prim.Native.Nat.{ℕ, zero, suc, _+_, _*_, _-_, _<_, _≤_}
+use native.Mathlib.Omega.{arith}
+use borrow.Author.Tests.{lt-ltb, le-ltb, le-leb, eq-eqb, ne-eqb}
+use lib.Dec.{eqb, ltb, leb}
+use lib.ListN.{length, take, drop, length-append, length-drop}
+use lib.Seq.{take-at, length-take-le}
+use Rattle.charts.specs.declared.Action.{Action}
+use Rattle.record.specs.Bytes.{hasRoom, placed, putAt}
+use Rattle.record.specs.Layout.{bytesOf, recordsOf}
+use Rattle.record.proofs.Round.{length-bytes}
+use Rattle.runfile.specs.Write.{writeNumber, blockWith, blockOf}
+use Rattle.runfile.proofs.Lists.{records-length}
+use Rattle.composer.specs.declared.Stage.the-variants.{Going}
+use Rattle.composer.specs.declared.Composer.{Composer}
+use Rattle.composer.specs.declared.Wrote.{Wrote}
+use Rattle.notation.specs.Words.{limit}
+use Rattle.composer.specs.Composer.{isStopped, quiet, stored, writtenAs, withBlock, recordsIn, flushOf, heldAfter, putOf, putHeld}
+
+-- a composer at block i, in which the records of l stand
+pub record At (n i : ℕ) (l : List Action) (c : Composer) : Type 0 where
+  pub going : c .stage ≡ Going
+  pub nodes : c .n ≡ n
+  pub blocks : c .blocks ≡ i
+  pub count : c .count ≡ length l
+  pub size : length (c .records) ≡ 496
+  pub holds : take (16 * length l) (c .records) ≡ recordsOf l
+
+records-more : (l : List Action) (a : Action) → recordsOf (l ++ (a ∷ [])) ≡ recordsOf l ++ bytesOf a
+records-more [] a = append-nil (bytesOf a)
+records-more (b ∷ l) a = rw (records-more l a) (sym (append-assoc (bytesOf b) (recordsOf l) (bytesOf a)))
+
+-- a record stored after those of l
+module _ (s : List ℕ) (l : List Action) (a : Action) (size : length s ≡ 496) (few : length l < 31) (holds : take (16 * length l) s ≡ recordsOf l) where
+  room : 16 * length l + 16 ≤ length s
+  room = omega arith
+
+  stored-is : putAt s (16 * length l) (bytesOf a) ≡ (recordsOf l ++ bytesOf a) ++ drop (16 * length l + 16) s
+  unfolding putAt
+  stored-is =
+      let fits = room in
+      rw (length-bytes a, le-leb (16 * length l + 16) (length s) fits, holds)
+
+  two-length : length (recordsOf l ++ bytesOf a) ≡ 16 * suc (length l)
+  two-length = length-append (recordsOf l) (bytesOf a) ∙ rw (records-length l, length-bytes a) (omega arith)
+
+  pub stored-size : length (putAt s (16 * length l) (bytesOf a)) ≡ 496
+  stored-size =
+      let fits = room in
+      let two = two-length in
+      rw stored-is (length-append (recordsOf l ++ bytesOf a) (drop (16 * length l + 16) s) ∙ rw (two, length-drop) (omega arith))
+
+  pub stored-holds : take (16 * suc (length l)) (putAt s (16 * length l) (bytesOf a)) ≡ recordsOf (l ++ (a ∷ []))
+  stored-holds = rw (stored-is, records-more l a) (take-at (recordsOf l ++ bytesOf a) (drop (16 * length l + 16) s) (16 * suc (length l)) two-length)
+
+-- what a put does: the composer after it, and the block that it wrote
+pub record Puts (n i k : ℕ) (l : List Action) (a : Action) (c : Composer) (bytes : List ℕ) : Type 0 where
+  pub at : At n i l (putOf c .composer)
+  pub action : putOf c .composer .action ≡ a
+  pub left : putOf c .composer .left ≡ k
+  pub wrote : putHeld c [] ≡ bytes
+
+module _ (n i k : ℕ) (l : List Action) (a : Action) (c : Composer) (at : At n i l c) (act : c .action ≡ a) (left : c .left ≡ suc k) where
+  some : eqb (c .left) 0 ≡ false
+  some = rw left (ne-eqb (suc k) 0 (λ e. omega arith))
+
+  next-length : length (l ++ (a ∷ [])) ≡ suc (length l)
+  next-length = length-append l (a ∷ []) ∙ omega arith
+
+  -- there is room for one more
+  short-put : length l < 30 → putOf c ≡ quiet (stored c (c .count + 1))
+  unfolding putOf
+  short-put few = rw (at .going, some, at .count, lt-ltb (length l) 30 few)
+
+  pub put-short : length l < 30 → Puts n i k (l ++ (a ∷ [])) a c []
+  unfolding heldAfter
+  put-short few =
+      let next = next-length in
+      let e = short-put few in
+      record {
+        at = rw e (record {
+          going = at .going;
+          nodes = at .nodes;
+          blocks = at .blocks;
+          count = rw (at .count, next) (omega arith);
+          size = rw (at .count, act) (stored-size (c .records) l a (at .size) (omega arith) (at .holds));
+          holds = rw (next, at .count, act) (stored-holds (c .records) l a (at .size) (omega arith) (at .holds));
+        });
+        action = rw e act;
+        left = rw (e, left) (omega arith);
+        wrote = rw e;
+      }
+
+  -- the 31st record fills the block
+  all-records : length l ≡ 30 → recordsIn (stored c (c .count)) 496 ≡ recordsOf (l ++ (a ∷ []))
+  all-records full =
+      let e : 16 * suc (length l) ≡ 496 = omega arith in
+      rw (at .count, act, ← e) (stored-holds (c .records) l a (at .size) (omega arith) (at .holds))
+
+  full-put : length l ≡ 30 → i < limit → writeNumber 512 n (recordsOf (l ++ (a ∷ []))) ≡ 0
+      → putOf c ≡ record { composer = withBlock (stored c (c .count)) (c .blocks + 1) 0 (stored c (c .count) .records) (c .left - 1); written = true }
+  unfolding putOf flushOf
+  full-put full fits taken =
+      let long : 30 ≤ length l = omega arith in
+      let small : ltb (c .blocks) limit ≡ true = rw (at .blocks) (lt-ltb i limit fits) in
+      let late : ltb (c .count) 30 ≡ false = rw (at .count) (le-ltb (length l) 30 long) in
+      let number : writeNumber 512 (c .n) (recordsIn (stored c (c .count)) 496) ≡ 0 = rw (at .nodes, all-records full) taken in
+      rw (at .going, some, late, small, number)
+
+  pub put-full : length l ≡ 30 → i < limit → writeNumber 512 n (recordsOf (l ++ (a ∷ []))) ≡ 0 → Puts n (suc i) k [] a c (blockOf i n (l ++ (a ∷ [])))
+  unfolding heldAfter
+  put-full full fits taken =
+      let e = full-put full fits taken in
+      record {
+        at = rw e (record {
+          going = at .going;
+          nodes = at .nodes;
+          blocks = rw (at .blocks) (omega arith);
+          count = refl;
+          size = rw (at .count, act) (stored-size (c .records) l a (at .size) (omega arith) (at .holds));
+          holds = refl;
+        });
+        action = rw e act;
+        left = rw (e, left) (omega arith);
+        wrote = rw (e, at .blocks, at .nodes, all-records full);
+      }

@@ -1,0 +1,3 @@
+pub mod ComposerLaws
+pub mod Blocks
+pub mod Whole

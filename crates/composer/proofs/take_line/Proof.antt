@@ -1,0 +1,57 @@
+use Rattle.composer.specs.Composer.{lineTaken}
+use borrow.Author.Needs.{needs}
+use Rattle.composer.proofs.take_line.Statement.{statement}
+use Rattle.composer.proofs.take_line.Tie as tie
+
+enum-told : tie.Need-enum-told
+enum-told c = search needs
+
+enum-known-said : tie.Need-enum-known-said
+enum-known-said c = search needs
+
+take-nodes-requires : tie.Need-take-nodes-requires
+take-nodes-requires c κs = search needs
+
+enum-known-said-2 : tie.Need-enum-known-said-2
+enum-known-said-2 c = search needs
+
+take-action-requires : tie.Need-take-action-requires
+take-action-requires c κs = search needs
+
+enum-known-said-3 : tie.Need-enum-known-said-3
+enum-known-said-3 c = search needs
+
+stop-requires : tie.Need-stop-requires
+stop-requires c κs = search needs
+
+returns : tie.Need-returns
+unfolding lineTaken
+returns c = simp (c .enum-told .given .1)
+
+returns-2 : tie.Need-returns-2
+unfolding lineTaken
+returns-2 c = simp (c .before .before .said .given .1, c .take-nodes .ensures)
+
+returns-3 : tie.Need-returns-3
+unfolding lineTaken
+returns-3 c = simp (c .before .before .said2 .given .1, c .take-action .ensures)
+
+returns-4 : tie.Need-returns-4
+unfolding lineTaken
+returns-4 c = simp (c .before .before .said3 .given .1, c .stop .ensures)
+
+pub take-line-spec : {M : Type 1} → statement M
+take-line-spec =
+    tie.close
+    (tie.spec
+    enum-told
+    enum-known-said
+    take-nodes-requires
+    enum-known-said-2
+    take-action-requires
+    enum-known-said-3
+    stop-requires
+    returns
+    returns-2
+    returns-3
+    returns-4)

@@ -1,0 +1,2 @@
+pub mod Composer
+pub mod Composed

@@ -1,0 +1,162 @@
+-- The fields of an action that a line says are in the ranges of their bytes. Assumes nothing.
+use mathlib.Core.Path.{_≡_, refl}
+use mathlib.Core.Bool.{Bool, true, false, cond}
+use mathlib.Core.List.{List, [], _∷_}
+use Prim.Native.Nat.{ℕ, _<_, _≤_}
+use native.Mathlib.Omega.{arith}
+use borrow.Author.Tests.{leb-true, ltb-true}
+use lib.Dec.{eqb, ltb, leb}
+use lib.ListN.{length}
+use Rattle.charts.specs.Records.{isKind}
+use Rattle.charts.specs.declared.Action.{Action}
+use Rattle.record.specs.Layout.{Fits}
+use Rattle.runfile.proofs.Loops.{and-right}
+use Rattle.transcript.specs.declared.Fault.the-variants.{UnknownWord, TooLarge, ExtraField, NoRepeat, LongLine}
+use Rattle.notation.specs.declared.Line.{Line}
+use Rattle.notation.specs.declared.Line.the-variants.{Blank, Nodes, Acts, Wrong}
+use Rattle.notation.specs.declared.words.Token.{Token}
+use Rattle.notation.specs.declared.words.Token.the-variants.{Word, Number, Large}
+use Rattle.notation.specs.Words as W
+use Rattle.notation.specs.Grammar.{Part, got, bad, after, isWord, byte, long, numeral, numberIn, addressAt, addressIn, addressOrNone, holdIn, lastOf, timesOf, repeatOf, endingOf, recordOf, requestOf, nodeOf, respondOf, changeOf, actionOf, nodesThen, nodesOf, namedOf, saidBy, lineOf}
+
+abbrev pub Fitting : Line → Type 0
+Fitting Blank = Unit
+Fitting (Nodes n) = Unit
+Fitting (Acts a k) = Fits a
+Fitting (Wrong f) = Unit
+
+either : (b : Bool) (x y : Line) → (b ≡ true → Fitting x) → Fitting y → Fitting (cond b x y)
+either true x y p q = p refl
+either false x y p q = q
+
+-- a field's value, if there is one
+abbrev AtMost : ℕ → Part → Type 0
+AtMost most (got x l) = x ≤ most
+AtMost most (bad f) = Unit
+
+either-field : (most : ℕ) (b : Bool) (p q : Part) → (b ≡ true → AtMost most p) → AtMost most q → AtMost most (cond b p q)
+either-field most true p q f g = f refl
+either-field most false p q f g = g
+
+then-fitting : (most : ℕ) (p : Part) (next : ℕ → List Token → Line) → AtMost most p → ((x : ℕ) (l : List Token) → x ≤ most → Fitting (next x l)) → Fitting (after p next)
+then-fitting most (got x l) next h g = g x l h
+then-fitting most (bad f) next h g = tt
+
+numeral-most : (most : ℕ) (t : Token) (l : List Token) → AtMost most (numeral most t l)
+numeral-most most (Word k) l = tt
+numeral-most most (Number x) l = either-field most (leb x most) (got x l) (bad TooLarge) (λ e. leb-true x most e) tt
+numeral-most most Large l = tt
+
+number-most : (most : ℕ) (l : List Token) → AtMost most (numberIn most l)
+unfolding numberIn
+number-most most [] = tt
+number-most most (t ∷ l) = numeral-most most t l
+
+address-at : (t : Token) (l : List Token) → AtMost byte (addressAt t l)
+address-at t l = either-field byte (isWord W.all t) _ _ (λ e. omega arith) (numeral-most byte t l)
+
+address-most : (l : List Token) → AtMost byte (addressIn l)
+unfolding addressIn
+address-most [] = tt
+address-most (t ∷ l) = address-at t l
+
+none-most : (l : List Token) → AtMost byte (addressOrNone l)
+unfolding addressOrNone
+none-most [] = omega arith
+none-most (t ∷ l) = either-field byte (isWord W.times t) _ _ (λ e. omega arith) (address-at t l)
+
+hold-most : (l : List Token) → AtMost byte (holdIn l)
+unfolding holdIn
+hold-most [] = omega arith
+hold-most (t ∷ l) = either-field byte (isWord W.hold t) _ _ (λ e. omega arith) (omega arith)
+
+-- the end of an action's line
+last-fitting : (r : Line) (l : List Token) → Fitting r → Fitting (lastOf r l)
+unfolding lastOf
+last-fitting r [] f = f
+last-fitting r (t ∷ l) f = tt
+
+repeat-fitting : (a : Action) (l : List Token) → Fits a → Fitting (repeatOf a l)
+unfolding repeatOf
+repeat-fitting a l f =
+    then-fitting long (numberIn long l) (timesOf a) (number-most long l) (λ k m h. either (eqb k 0) (Wrong NoRepeat) (lastOf (Acts a k) m) (λ e. tt) (last-fitting (Acts a k) m f))
+
+ending-fitting : (a : Action) (l : List Token) → Fits a → Fitting (endingOf a l)
+unfolding endingOf
+ending-fitting a [] f = f
+ending-fitting a (t ∷ l) f = either (isWord W.times t) (repeatOf a l) (Wrong ExtraField) (λ e. repeat-fitting a l f) tt
+
+record-fits : (kind node address ack hold header datum : ℕ) → kind < 256 → node ≤ byte → address ≤ byte → ack ≤ byte → hold ≤ byte → header ≤ long → datum ≤ long
+    → Fits (recordOf kind node address ack hold header datum)
+record-fits kind node address ack hold header datum k n a c h x d = record {
+  kind-fits = k;
+  node-fits = omega arith;
+  address-fits = omega arith;
+  ack-fits = omega arith;
+  hold-fits = omega arith;
+  byte5-fits = omega arith;
+  byte6-fits = omega arith;
+  byte7-fits = omega arith;
+  header-fits = omega arith;
+  datum-fits = omega arith;
+}
+
+request-fitting : (l : List Token) → Fitting (requestOf l)
+unfolding requestOf
+request-fitting l =
+    then-fitting byte (numberIn byte l) _ (number-most byte l) λ node l1 n.
+    then-fitting byte (addressIn l1) _ (address-most l1) λ address l2 a.
+    then-fitting long (numberIn long l2) _ (number-most long l2) λ header l3 x.
+    then-fitting long (numberIn long l3) _ (number-most long l3) λ datum l4 d.
+    ending-fitting _ l4 (record-fits 1 node address 0 0 header datum (omega arith) n a (omega arith) (omega arith) x d)
+
+node-fitting : (kind : ℕ) (l : List Token) → kind < 256 → Fitting (nodeOf kind l)
+unfolding nodeOf
+node-fitting kind l k =
+    then-fitting byte (numberIn byte l) _ (number-most byte l) λ node l1 n.
+    ending-fitting _ l1 (record-fits kind node 0 0 0 0 0 k n (omega arith) (omega arith) (omega arith) (omega arith) (omega arith))
+
+respond-fitting : (l : List Token) → Fitting (respondOf l)
+unfolding respondOf
+respond-fitting l =
+    then-fitting byte (numberIn byte l) _ (number-most byte l) λ node l1 n.
+    then-fitting byte (numberIn byte l1) _ (number-most byte l1) λ ack l2 c.
+    then-fitting byte (holdIn l2) _ (hold-most l2) λ hold l3 h.
+    ending-fitting _ l3 (record-fits 3 node 0 ack hold 0 0 (omega arith) n (omega arith) c h (omega arith) (omega arith))
+
+change-fitting : (l : List Token) → Fitting (changeOf l)
+unfolding changeOf
+change-fitting l =
+    then-fitting byte (addressOrNone l) _ (none-most l) λ address l1 a.
+    ending-fitting _ l1 (record-fits 7 0 address 0 0 0 0 (omega arith) (omega arith) a (omega arith) (omega arith) (omega arith) (omega arith))
+
+action-fitting : (kind : ℕ) (l : List Token) → kind < 256 → Fitting (actionOf kind l)
+unfolding actionOf
+action-fitting kind l k =
+    either (eqb kind 1) _ _ (λ e. request-fitting l)
+    (either (eqb kind 2) _ _ (λ e. node-fitting 2 l (omega arith))
+    (either (eqb kind 3) _ _ (λ e. respond-fitting l)
+    (either (eqb kind 4) _ _ (λ e. node-fitting 4 l (omega arith))
+    (either (eqb kind 7) _ _ (λ e. change-fitting l)
+    (ending-fitting _ l (record-fits kind 0 0 0 0 0 0 k (omega arith) (omega arith) (omega arith) (omega arith) (omega arith) (omega arith)))))))
+
+nodes-fitting : (l : List Token) → Fitting (nodesOf l)
+unfolding nodesOf
+nodes-fitting l = then-fitting byte (numberIn byte l) nodesThen (number-most byte l) (λ n m h. last-fitting (Nodes n) m tt)
+
+named-fitting : (k : ℕ) (l : List Token) → Fitting (namedOf k l)
+unfolding namedOf
+named-fitting k l =
+    either (isKind k) (actionOf k l) _ (λ e. let small = ltb-true k 11 (and-right (ltb 0 k) _ e) in action-fitting k l (omega arith))
+    (either (eqb k W.nodes) (nodesOf l) (Wrong UnknownWord) (λ e. nodes-fitting l) tt)
+
+said-fitting : (l : List Token) → Fitting (saidBy l)
+unfolding saidBy
+said-fitting [] = tt
+said-fitting (Word k ∷ l) = named-fitting k l
+said-fitting (Number x ∷ l) = tt
+said-fitting (Large ∷ l) = tt
+
+pub line-fitting : (line : List ℕ) → Fitting (lineOf line)
+unfolding lineOf
+line-fitting line = either (ltb 255 (length line)) (Wrong LongLine) (saidBy (W.tokensOf line)) (λ e. tt) (said-fitting (W.tokensOf line))

@@ -1,0 +1,51 @@
+use Rattle.transcript.proofs.Puts.{and-then}
+use native.Mathlib.Omega.{arith}
+use borrow.Author.Tests.{eq-eqb, ne-eqb}
+use borrow.Author.Needs.{needs}
+use Rattle.transcript.proofs.words.put_change.Statement.{statement}
+use Rattle.transcript.proofs.words.put_change.Tie as tie
+
+slice-aggregate-put-word : tie.Need-slice-aggregate-put-word
+slice-aggregate-put-word c = search needs
+
+put-word-requires : tie.Need-put-word-requires
+put-word-requires c κs = search needs
+
+same-length : tie.Need-same-length
+same-length c = search needs
+
+returns : tie.Need-returns
+returns c = (omega arith, rw (eq-eqb _ _ (c .before .before .before .before .before .if1 .taken)) (c .before .before .put-word .ensures))
+
+slice-aggregate-put-word-2 : tie.Need-slice-aggregate-put-word-2
+slice-aggregate-put-word-2 c = search needs
+
+put-word-requires-2 : tie.Need-put-word-requires-2
+put-word-requires-2 c κs = search needs
+
+put-address-requires : tie.Need-put-address-requires
+put-address-requires c κs = search needs
+
+put-byte-requires : tie.Need-put-byte-requires
+put-byte-requires c κs = search needs
+
+same-length-2 : tie.Need-same-length-2
+same-length-2 c = search needs
+
+returns-2 : tie.Need-returns-2
+returns-2 c = (omega arith, rw (ne-eqb _ _ (c .before .before .before .before .before .before .before .before .before .before .before .before .before .if1 .left)) (and-then (c .before .before .before .before .before .before .before .before .before .before .put-word2 .ensures) (and-then (c .before .before .before .before .before .before .put-address .ensures .1) (c .before .before .put-byte .ensures))))
+
+pub put-change-spec : {M : Type 1} → statement M
+put-change-spec =
+    tie.close
+    (tie.spec
+    slice-aggregate-put-word
+    put-word-requires
+    same-length
+    returns
+    slice-aggregate-put-word-2
+    put-word-requires-2
+    put-address-requires
+    put-byte-requires
+    same-length-2
+    returns-2)

@@ -1,0 +1,65 @@
+-- One line for an action, as `list` prints it.
+use mathlib.Core.Bool.{cond}
+use mathlib.Core.List.{List, [], _∷_, _++_}
+use Prim.Native.Nat.{ℕ}
+use lib.Dec.{eqb}
+use Rattle.charts.specs.Signals.{everybody}
+use Rattle.charts.specs.declared.Action.{Action}
+use Rattle.transcript.specs.declared.Fault.{Fault}
+use Rattle.transcript.specs.declared.Fault.the-variants as F
+use Rattle.transcript.specs.Text.{ascii, decimal}
+use Rattle.transcript.specs.Lines.{line}
+
+-- "address or `all`"
+unfoldable pub addressWord : ℕ → List ℕ
+addressWord address = cond (eqb address everybody) (ascii "all") (decimal address)
+
+-- "`respond 1 1 hold` / `respond 1 1`"
+abbrev pub holdWord : ℕ → List (List ℕ)
+holdWord hold = cond (eqb hold 0) [] (ascii "hold" ∷ [])
+
+-- "`change 2` / `change`"
+abbrev pub changeWord : ℕ → List (List ℕ)
+changeWord address = cond (eqb address 0) [] (addressWord address ∷ [])
+
+-- words that end a line, after its first word
+abbrev pub lineAfter : List (List ℕ) → List ℕ
+lineAfter [] = 10 ∷ []
+lineAfter (w ∷ l) = 32 ∷ line (w ∷ l)
+
+-- an action's words: its kind and the fields that the kind names; a record of another kind has none
+unfoldable pub wordsFor : Action → List (List ℕ)
+wordsFor a =
+    cond (eqb (a .kind) 1) (ascii "request" ∷ decimal (a .node) ∷ addressWord (a .address) ∷ decimal (a .header) ∷ decimal (a .datum) ∷ [])
+    (cond (eqb (a .kind) 2) (ascii "arbitrate" ∷ decimal (a .node) ∷ [])
+    (cond (eqb (a .kind) 3) (ascii "respond" ∷ decimal (a .node) ∷ decimal (a .ack) ∷ holdWord (a .hold))
+    (cond (eqb (a .kind) 4) (ascii "clock" ∷ decimal (a .node) ∷ [])
+    (cond (eqb (a .kind) 5) (ascii "pass" ∷ [])
+    (cond (eqb (a .kind) 6) (ascii "lose" ∷ [])
+    (cond (eqb (a .kind) 7) (ascii "change" ∷ changeWord (a .address))
+    (cond (eqb (a .kind) 8) (ascii "grant" ∷ [])
+    (cond (eqb (a .kind) 9) (ascii "gap" ∷ [])
+    (cond (eqb (a .kind) 10) (ascii "reset" ∷ [])
+    [])))))))))
+
+unfoldable pub actionLine : Action → List ℕ
+actionLine a = line (wordsFor a)
+
+-- what is wrong, in words; the paper's number for what the writer would refuse
+unfoldable pub faultWords : Fault → List ℕ
+faultWords F.UnknownWord = ascii "unknown word"
+faultWords F.NotNumber = ascii "not a number"
+faultWords F.TooLarge = ascii "number too large"
+faultWords F.MissingField = ascii "missing field"
+faultWords F.ExtraField = ascii "extra field"
+faultWords F.NoRepeat = ascii "repeat of 0"
+faultWords F.LongLine = ascii "line over 255 bytes"
+faultWords F.NodesMissing = ascii "no nodes line"
+faultWords F.NodesAgain = ascii "a second nodes line"
+faultWords F.NoAction = ascii "no action"
+faultWords F.TooMany = ascii "too many actions"
+faultWords (F.Refused k) = ascii "refused " ++ decimal k
+
+-- "one line on standard error that names the line of the text and what is wrong there"
+unfoldable pub faultLine : ℕ → Fault → List ℕ
+faultLine number f = ascii "line " ++ (decimal number ++ (ascii ": " ++ (faultWords f ++ (10 ∷ []))))
