@@ -8,7 +8,7 @@ use Rattle.charts.specs.Step.{Result, begin}
 use Rattle.charts.specs.View.{view}
 use Rattle.bus.specs.Advance.{advanceOf}
 use Rattle.runfile.specs.declared.order.Stage.the-variants.{Unopened}
-use Rattle.transcript.specs.Lines.{nodesLine, doneLine}
+use Rattle.transcript.specs.Lines.{doneLine}
 use Rattle.transcript.specs.Room.{Puts}
 use Rattle.walk.specs.Walk.{Walker}
 use Rattle.walk.specs.Feeding as F
@@ -25,7 +25,6 @@ seen p = record { state = view (p .bus); stage = p .stage }
 -- the walk with the functions of crate `bus`: the fresh bus that it gives, and `advance`, which is the charts' step where the state is valid
 abbrev pub advancing : Walker State
 advancing = record {
-  heading = nodesLine;
   opening = λ n. begin n .state;
   nodes = λ s. s .n;
   turn = λ i a s. turn i (a .kind) (advanceOf s a);

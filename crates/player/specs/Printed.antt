@@ -4,7 +4,7 @@ use Prim.Native.Nat.{ℕ}
 use Rattle.charts.specs.declared.Action.{Action}
 use Rattle.charts.specs.State.{State, fresh}
 use Rattle.charts.specs.Step.{Result, step}
-use Rattle.transcript.specs.Lines.{lineOf, nodesLine, doneLine}
+use Rattle.transcript.specs.Lines.{lineOf, doneLine}
 use Rattle.walk.specs.Walk.{Turn, Walker, walked, listWalked}
 pub use Rattle.runfile.specs.Pieces.{actionsIn}
 
@@ -12,10 +12,9 @@ pub use Rattle.runfile.specs.Pieces.{actionsIn}
 abbrev pub turn : ℕ → ℕ → Result → Turn State
 turn i kind r = record { number = r .number; line = lineOf i kind (r .report); state = r .state }
 
--- "`nodes` is printed once block 0 is accepted"; block 0's actions find a fresh bus; "then each action, when its turn comes, by 2 to 7"; `done` and the count
+-- block 0's actions find a fresh bus; "then each action, when its turn comes, by 2 to 7"; `done` and the count
 abbrev pub playing : Walker State
 playing = record {
-  heading = nodesLine;
   opening = fresh;
   nodes = λ s. s .n;
   turn = λ i a s. turn i (a .kind) (step s a);

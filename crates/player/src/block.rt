@@ -1,30 +1,15 @@
-// One block of a file: what it prints before its actions, the bus that they find, and the actions played.
+// One block of a file: the bus that its actions find, and the actions played.
 ghost use mathlib.Core.Path.{_≡_};
 ghost use mathlib.Core.List.{_∷_, []};
 ghost use Prim.Native.Nat.{_+_, _*_, _≤_};
 ghost use lib.ListN.{length};
 ghost use Rattle.charts.specs.View.{view};
 ghost use Rattle.transcript.specs.Room.{Puts};
-ghost use Rattle.walk.specs.Feeding.{headingOf, openingOf};
+ghost use Rattle.walk.specs.Feeding.{openingOf};
 ghost use Rattle.player.specs.Feeding.{advancing, partOf, Plays};
 ghost use Rattle.player.specs.Printed.{actionsIn};
 use charts::Bus;
 use runfile::order::Stage;
-
-// "`nodes` is printed once block 0 is accepted"
-pub(crate) fn put_heading(stage: Stage, n: u8, out: &mut [u8; 2048]) -> usize
-    ensures { λ r. ⌜ r ≤ 64 ⌝ }
-    ensures { λ r. ⌜ Puts (now (out .entry)) 0 (headingOf advancing stage n) r (now (out .exit)) ⌝ }
-{
-    match stage {
-        Stage::Unopened => transcript::put_nodes(out, 0, n),
-        Stage::After {
-            number: _,
-            count: _,
-        } => 0,
-        Stage::Ended => 0,
-    }
-}
 
 // The bus that a block's actions find: a fresh one for block 0.
 pub(crate) fn opening(stage: Stage, b: Bus, n: u8) -> Bus

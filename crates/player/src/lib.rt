@@ -69,7 +69,7 @@ pub fn feed(p: Player, piece: &[u8], out: &mut [u8; 2048]) -> Fed
             ended: true,
         };
     };
-    let at = block::put_heading(stage, n, out);
+    let at = walk::put_heading(stage, n, out);
     let part = block::play_actions(
         block::opening(stage, bus, n),
         piece,

@@ -130,7 +130,7 @@ file-bytes n size (suc k) i l all j =
     (file-bytes n size k (suc i) (drop 31 l) (fit-drop 31 l all)) j
 
 -- no record is refused by 0
-never-zero : (n : ℕ) (a : Action) → read n a ≡ D.Refused 0 → ⊥
+pub never-zero : (n : ℕ) (a : Action) → read n a ≡ D.Refused 0 → ⊥
 unfolding read
 never-zero n a h =
     go (not (isKind (a .kind))) (not (clean a)) (namesNode (a .kind) && not (ltb (a .node) n)) (namesAddress (a .kind) && not (isAddress n (a .address)))

@@ -163,7 +163,8 @@ pub fn action_bytes(block: &[u8]) -> &[u8]
     &block[14..end]
 }
 
-fn number(d: Decoded) -> u8
+// The number of an action record that was looked at by 2 to 6, or 0.
+pub fn number(d: Decoded) -> u8
     ensures { λ r. ⌜ r ≡ numberOf d ⌝ }
 {
     match d {

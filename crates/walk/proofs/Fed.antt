@@ -34,7 +34,7 @@ module _ {S : Type 0} (w : Walker S) (p : Walking S) (piece start : List ℕ) wh
   fed-refused k e is text = let t = from-zero text in rw (e, is) (t .0, (t .1, refl))
 
   pub fed-played : (number count n : ℕ) {at end : ℕ} {mid buf : List ℕ} {state : S} {stage : Stage} → isEnded (p .stage) ≡ false → lookOf (p .stage) (w .nodes (p .state)) piece ≡ Holds number count n
-      → Puts start 0 (headingOf w (p .stage) n) at mid
+      → Puts start 0 (headingOf (p .stage) n) at mid
       → Puts mid at (partOf w (actionsIn count piece) (openingOf w (p .stage) n (p .state)) (acceptedBy (p .stage)) .text) end buf
       → state ≡ partOf w (actionsIn count piece) (openingOf w (p .stage) n (p .state)) (acceptedBy (p .stage)) .state
       → stage ≡ stageAfter (partOf w (actionsIn count piece) (openingOf w (p .stage) n (p .state)) (acceptedBy (p .stage)) .ended) number count

@@ -23,7 +23,6 @@ use Rattle.walk.specs.Feeding.{Walking, headingOf, openingOf, Part, line
 
 -- a walk v that does what w does, in every state that some block 0 and the actions after it can lead to
 pub record Does {S : Type 0} (Good : S → Type 0) (w v : Walker S) : Type 0 where
-  pub same-heading : (n : ℕ) → v .heading n ≡ w .heading n
   pub same-done : (i : ℕ) → v .done i ≡ w .done i
   pub same-opening : (n : ℕ) → isSize n ≡ true → v .opening n ≡ w .opening n
   pub opening-good : (n : ℕ) → isSize n ≡ true → Good (w .opening n)
@@ -88,7 +87,7 @@ module _ {S : Type 0} {Good : S → Type 0} {w v : Walker S} (does : Does Good w
 
   -- the same heading, and the same state to begin with, which is good and has the block's n
   record Opens (g : Stage) (s : S) (n : ℕ) : Type 0 where
-    heading-is : headingOf v g n ≡ headed w (before g (v .nodes s)) n
+    heading-is : headingOf g n ≡ headed (before g (v .nodes s)) n
     opening-is : openingOf v g n s ≡ opened w (before g (v .nodes s)) n s
     opens-good : Good (openingOf v g n s)
     opens-nodes : v .nodes (openingOf v g n s) ≡ n
@@ -97,7 +96,7 @@ module _ {S : Type 0} {Good : S → Type 0} {w v : Walker S} (does : Does Good w
   opens Unopened s number n k good f z =
       let e = does .same-opening n z in
       record {
-        heading-is = does .same-heading n;
+        heading-is = refl;
         opening-is = e;
         opens-good = rw e (does .opening-good n z);
         opens-nodes = rw e (does .opening-nodes n z);
@@ -129,9 +128,9 @@ module _ {S : Type 0} {Good : S → Type 0} {w v : Walker S} (does : Does Good w
         let later : Before = record { blocks = suc (before g m .blocks); full = eqb count 31; n = n } in
         let same : before (After number count) (v .nodes (p .state)) ≡ later = rw (q .the-next, kept .as-many ∙ o .opens-nodes) in
         let follow = ends p number count later (acceptedBy g + length acts) (kept .still-good) same (sym (q .in-all)) in
-        append-assoc (headingOf v g n) (p .text) _
+        append-assoc (headingOf g n) (p .text) _
         ∙ rw (← o .opening-is, ← o .heading-is)
-        (ap (λ (t : List ℕ). headingOf v g n ++ t)
+        (ap (λ (t : List ℕ). headingOf g n ++ t)
         (ap (λ (t : List ℕ). p .text ++ t) follow ∙ sym (played acts (openingOf v g n s) (acceptedBy g) (walkedFrom w l later) (o .opens-good))))
 
   fed : (l : List (List ℕ)) (g : Stage) (s : S) → isEnded g ≡ false → Fine g s → fedText v l (record { state = s; stage = g }) ≡ walkedFrom w l (before g (v .nodes s)) s (acceptedBy g)

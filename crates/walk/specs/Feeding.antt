@@ -10,7 +10,7 @@ use Rattle.runfile.specs.declared.order.Stage.{Stage}
 use Rattle.runfile.specs.declared.order.Stage.the-variants.{Unopened, After, Ended}
 use Rattle.runfile.specs.Order.{isEnded, acceptedBy, lookOf, stageAfter}
 use Rattle.runfile.specs.Pieces.{actionsIn}
-use Rattle.transcript.specs.Lines.{refusedLine}
+use Rattle.transcript.specs.Lines.{nodesLine, refusedLine}
 use Rattle.walk.specs.Walk.{Turn, isTaken, Walker}
 
 -- a walk between two pieces
@@ -18,11 +18,11 @@ pub record Walking (S : Type 0) : Type 0 where
   pub state : S
   pub stage : Stage
 
--- block 0 prints the heading and has a state of its own
-abbrev pub headingOf : {S : Type 0} → Walker S → Stage → ℕ → List ℕ
-headingOf w Unopened n = w .heading n
-headingOf w (After i c) n = []
-headingOf w Ended n = []
+-- block 0 prints `nodes` and has a state of its own
+abbrev pub headingOf : Stage → ℕ → List ℕ
+headingOf Unopened n = nodesLine n
+headingOf (After i c) n = []
+headingOf Ended n = []
 
 abbrev pub openingOf : {S : Type 0} → Walker S → Stage → ℕ → S → S
 openingOf w Unopened n s = w .opening n
@@ -60,7 +60,7 @@ abbrev pub blockGives : {S : Type 0} → Walker S → Stage → S → List ℕ �
 blockGives w g s piece (Refused k) =
     record { text = refusedLine (acceptedBy g) k; after = record { state = s; stage = Ended } }
 blockGives w g s piece (Holds number count n) =
-    partGives (headingOf w g n) number count (partOf w (actionsIn count piece) (openingOf w g n s) (acceptedBy g))
+    partGives (headingOf g n) number count (partOf w (actionsIn count piece) (openingOf w g n s) (acceptedBy g))
 
 -- a walk that a refusal has ended prints nothing more
 unfoldable pub feedOf : {S : Type 0} → Walker S → Walking S → List ℕ → Gives S

@@ -9,7 +9,7 @@ use Rattle.runfile.specs.declared.BlockHead.{BlockHead}
 use Rattle.runfile.specs.declared.BlockHead.the-variants.{Holds, Refused}
 use Rattle.runfile.specs.Block.{headOf}
 use Rattle.runfile.specs.Pieces.{pieces, Before, none, isFirst, lookedAt, actionsIn}
-use Rattle.transcript.specs.Lines.{refusedLine}
+use Rattle.transcript.specs.Lines.{nodesLine, refusedLine}
 
 -- what the turn of an action gives: 0 or the number of its refusal, its line, and the state that the next action finds
 pub record Turn (S : Type 0) : Type 0 where
@@ -20,10 +20,9 @@ pub record Turn (S : Type 0) : Type 0 where
 abbrev pub isTaken : {S : Type 0} → Turn S → Bool
 isTaken t = eqb (t .number) N.accepted
 
--- what is done with a file: what is printed once block 0 is accepted, by its n; the state that its first action finds, and the n of a state;
--- the turn of an action, by its index and a state; what is printed at the file's end, by the count of all actions
+-- what is done with a file: the state that block 0's actions find, by its n, and the n of a state; the turn of an action, by its index and a state;
+-- what is printed at the file's end, by the count of all actions
 pub record Walker (S : Type 0) : Type 0 where
-  pub heading : ℕ → List ℕ
   pub opening : ℕ → S
   pub nodes : S → ℕ
   pub turn : ℕ → Action → S → Turn S
@@ -38,9 +37,9 @@ abbrev pub walking : {S : Type 0} → Walker S → List Action → S → ℕ →
 walking w [] s i later = later s i
 walking w (a ∷ l) s i later = turned i (w .turn i a s) (walking w l (w .turn i a s .state) (suc i) later)
 
--- what is printed before a block's actions, and the state that they find: block 0's own, or that which the block before left
-abbrev pub headed : {S : Type 0} → Walker S → Before → ℕ → List ℕ
-headed w p n = cond (isFirst p) (w .heading n) []
+-- "`nodes` is printed once block 0 is accepted"; the state that a block's actions find: block 0's own, or that which the block before left
+abbrev pub headed : Before → ℕ → List ℕ
+headed p n = cond (isFirst p) (nodesLine n) []
 
 abbrev pub opened : {S : Type 0} → Walker S → Before → ℕ → S → S
 opened w p n s = cond (isFirst p) (w .opening n) s
@@ -49,7 +48,7 @@ opened w p n s = cond (isFirst p) (w .opening n) s
 abbrev pub blockWalked : {S : Type 0} → Walker S → List ℕ → Before → S → ℕ → BlockHead → (Before → S → ℕ → List ℕ) → List ℕ
 blockWalked w b p s i (Refused k) later = refusedLine i k
 blockWalked w b p s i (Holds number count n) later =
-    headed w p n
+    headed p n
     ++ walking w (actionsIn count b) (opened w p n s) i (later (record { blocks = suc (p .blocks); full = eqb count 31; n = n }))
 
 -- the text of blocks one after the other, i actions having been accepted before them; "an empty file" is 8
@@ -63,4 +62,4 @@ walked w bytes = walkedFrom w (pieces bytes) none (w .opening 0) 0
 
 -- the text of a list of actions for n nodes; it is that of every file of the list (proofs/Files.antt)
 abbrev pub listWalked : {S : Type 0} → Walker S → ℕ → List Action → List ℕ
-listWalked w n l = w .heading n ++ walking w l (w .opening n) 0 (λ s i. w .done i)
+listWalked w n l = nodesLine n ++ walking w l (w .opening n) 0 (λ s i. w .done i)

@@ -4,8 +4,8 @@ use lib.ListN.{length}
 use Rattle.transcript.proofs.Rooms.{puts-line}
 use Rattle.transcript.proofs.Puts.{puts-none}
 use borrow.Author.Needs.{needs}
-use Rattle.player.proofs.block.put_heading.Statement.{statement}
-use Rattle.player.proofs.block.put_heading.Tie as tie
+use Rattle.walk.proofs.put_heading.Statement.{statement}
+use Rattle.walk.proofs.put_heading.Tie as tie
 
 enum-told : tie.Need-enum-told
 enum-told c = search needs

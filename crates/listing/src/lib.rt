@@ -1,0 +1,96 @@
+// A run file in plain words, block by block: each piece of 512 bytes that is fed becomes text in a buffer that the caller lends.
+mod block;
+
+ghost use mathlib.Core.Path.{_≡_};
+ghost use Prim.Native.Nat.{_≤_};
+ghost use lib.ListN.{length};
+ghost use Rattle.transcript.specs.Room.{put};
+ghost use Rattle.runfile.specs.Order.{isEnded};
+ghost use Rattle.walk.specs.Feeding.{feedOf, finishOf};
+ghost use Rattle.listing.specs.Listed.{naming, seen, started};
+use runfile::BlockHead;
+use runfile::order;
+use runfile::order::Stage;
+
+const WRONG_LENGTH: u8 = 8;
+
+// A listing between two pieces: block 0's n, and how far the file has been listed.
+pub struct Listing {
+    pub n: u8,
+    pub stage: Stage,
+}
+
+// What a piece gives: the listing after it, how many bytes of text it put, and whether a refusal has ended the listing.
+pub struct Fed {
+    pub listing: Listing,
+    pub end: usize,
+    pub ended: bool,
+}
+
+// The listing before a file.
+pub fn start() -> Listing
+    ensures { λ r. ⌜ seen r ≡ started ⌝ }
+{
+    Listing {
+        n: 0,
+        stage: Stage::Unopened,
+    }
+}
+
+// Lists a piece of a file. Its text stands at the start of `out`.
+pub fn feed(l: Listing, piece: &[u8], out: &mut [u8; 2048]) -> Fed
+    ensures { λ r. ⌜ r .end ≤ 2048 ⌝ }
+    ensures { λ r. ⌜ r .end ≡ length (feedOf naming (seen l) (now (piece .entry)) .text) ⌝ }
+    ensures { λ _. ⌜ now (out .exit) ≡ put (now (out .entry)) 0 (feedOf naming (seen l) (now (piece .entry)) .text) ⌝ }
+    ensures { λ r. ⌜ seen (r .listing) ≡ feedOf naming (seen l) (now (piece .entry)) .after ⌝ }
+    ensures { λ r. ⌜ r .ended ≡ isEnded (r .listing .stage) ⌝ }
+{
+    let stage = l.stage;
+    let m = l.n;
+    if order::is_ended(stage) {
+        return Fed {
+            listing: l,
+            end: 0,
+            ended: true,
+        };
+    }
+    let head = order::look(stage, m, piece);
+    let BlockHead::Holds { number, count, n } = head else {
+        let end = transcript::put_refused(out, 0, order::accepted_by(stage), order::refusal(head));
+        return Fed {
+            listing: Listing {
+                n: m,
+                stage: Stage::Ended,
+            },
+            end: end,
+            ended: true,
+        };
+    };
+    let at = walk::put_heading(stage, n, out);
+    let part = block::put_actions(n, piece, count, order::accepted_by(stage), out, at);
+    Fed {
+        listing: Listing {
+            n: n,
+            stage: order::stage_after(part.ended, number, count),
+        },
+        end: part.end,
+        ended: part.ended,
+    }
+}
+
+// The file's end. Its text stands at the start of `out`; the answer is its length.
+pub fn finish(l: Listing, out: &mut [u8; 2048]) -> usize
+    ensures { λ r. ⌜ r ≤ 2048 ⌝ }
+    ensures { λ r. ⌜ r ≡ length (finishOf naming (l .stage)) ⌝ }
+    ensures { λ _. ⌜ now (out .exit) ≡ put (now (out .entry)) 0 (finishOf naming (l .stage)) ⌝ }
+{
+    let stage = l.stage;
+    match stage {
+        Stage::Unopened => transcript::put_refused(out, 0, 0, WRONG_LENGTH),
+        Stage::After {
+            number: _,
+            count: _,
+        } => 0,
+        Stage::Ended => 0,
+    }
+}

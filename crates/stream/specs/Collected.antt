@@ -1,0 +1,20 @@
+-- A buffer of collected text: how many bytes it holds, and which.
+use mathlib.Core.Bool.{cond}
+use mathlib.Core.List.{List}
+use Prim.Native.Nat.{ℕ, _+_, _-_}
+use lib.Dec.{leb, ltb}
+use lib.ListN.{length}
+use lib.Seq.{sets}
+
+-- of so many bytes no more than there are
+abbrev pub heldOf : ℕ → ℕ → ℕ
+heldOf used size = cond (ltb size used) size used
+
+-- a text is added after the bytes held where it has room there, or else at the start; one longer than the buffer is not kept
+unfoldable pub heldAfter : ℕ → ℕ → ℕ → ℕ
+heldAfter size held more = cond (leb more (size - held)) (held + more) (cond (leb more size) more 0)
+
+unfoldable pub collected : List ℕ → ℕ → List ℕ → List ℕ
+collected out held text =
+    cond (leb (length text) (length out - held)) (sets out held text)
+    (cond (leb (length text) (length out)) (sets out 0 text) out)
