@@ -1,7 +1,6 @@
 // Plays the run file on standard input and prints its text on standard output.
 // Its memory is constant: 128 blocks of input, as much output, the text of one block, and the player.
-ghost use Prim.Native.Nat.{_+_, _<_, _≤_};
-ghost use lib.ListN.{length};
+ghost use Prim.Native.Nat.{_<_, _≤_};
 use player::Player;
 
 const BLOCK: usize = 512;
@@ -28,40 +27,8 @@ fn piece_end(at: usize, size: usize) -> usize
     at + BLOCK
 }
 
-// Copies the first bytes of the text to place `at` of the output buffer.
-fn copy(text: &[u8], size: usize, out: &mut [u8], at: usize)
-    requires { ⌜ size ≤ length (now text) ⌝ }
-    requires { ⌜ at + size ≤ length (now out) ⌝ }
-{
-    let mut i: usize = 0;
-    while i < size {
-        out[at + i] = text[i];
-        i += 1;
-    }
-}
-
-// Adds the first bytes of the text to the output buffer, whose own are written out first where they have no room. Answers how many are used then.
-fn collect(text: &[u8], size: usize, out: &mut [u8], used: usize) -> usize
-    requires { ⌜ size ≤ length (now text) ⌝ }
-    requires { ⌜ size ≤ length (now out) ⌝ }
-    requires { ⌜ used ≤ length (now out) ⌝ }
-    ensures { λ r. ⌜ r ≤ length (now (out .exit)) ⌝ }
-{
-    if size <= out.len() - used {
-        copy(text, size, out, used);
-        return used + size;
-    }
-    io::write_all(1, &out[..used]);
-    copy(text, size, out, 0);
-    size
-}
-
 // Feeds the player the pieces of some input.
-fn play_input(p: Player, input: &[u8], text: &mut [u8; 2048], out: &mut [u8], used: usize) -> Went
-    requires { ⌜ 2048 ≤ length (now out) ⌝ }
-    requires { ⌜ used ≤ length (now out) ⌝ }
-    ensures { λ r. ⌜ r .used ≤ length (now (out .exit)) ⌝ }
-{
+fn play_input(p: Player, input: &[u8], text: &mut [u8; 2048], out: &mut [u8], used: usize) -> Went {
     let mut q = p;
     let mut filled = used;
     let mut at: usize = 0;
@@ -69,8 +36,7 @@ fn play_input(p: Player, input: &[u8], text: &mut [u8; 2048], out: &mut [u8], us
         let stop = piece_end(at, input.len());
         let fed = player::feed(q, &input[at..stop], text);
         q = fed.player;
-        let size = fed.end;
-        filled = collect(text, size, out, filled);
+        filled = stream::collect(out, filled, text, fed.end);
         if fed.ended {
             return Went {
                 player: q,
@@ -88,10 +54,7 @@ fn play_input(p: Player, input: &[u8], text: &mut [u8; 2048], out: &mut [u8], us
 }
 
 // Reads and plays chunk after chunk, to the end of the input or to a refusal.
-fn play_chunks(input: &mut [u8], text: &mut [u8; 2048], out: &mut [u8]) -> Went
-    requires { ⌜ 2048 ≤ length (now out) ⌝ }
-    ensures { λ r. ⌜ r .used ≤ length (now (out .exit)) ⌝ }
-{
+fn play_chunks(input: &mut [u8], text: &mut [u8; 2048], out: &mut [u8]) -> Went {
     let mut p = player::start();
     let mut used: usize = 0;
     let mut chunks: u32 = 0;
@@ -116,13 +79,11 @@ fn play_chunks(input: &mut [u8], text: &mut [u8; 2048], out: &mut [u8]) -> Went
 }
 
 // Plays the input, and writes what the output buffer then holds.
-fn play(input: &mut [u8], text: &mut [u8; 2048], out: &mut [u8])
-    requires { ⌜ 2048 ≤ length (now out) ⌝ }
-{
+fn play(input: &mut [u8], text: &mut [u8; 2048], out: &mut [u8]) {
     let went = play_chunks(input, text, out);
     let p = went.player;
-    let size = player::finish(p, text);
-    let used = collect(text, size, out, went.used);
+    let end = player::finish(p, text);
+    let used = stream::collect(out, went.used, text, end);
     io::write_all(1, &out[..used]);
 }
 

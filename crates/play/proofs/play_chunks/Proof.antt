@@ -6,7 +6,7 @@ use Rattle.play.proofs.play_chunks.Statement.{statement}
 use Rattle.play.proofs.play_chunks.Tie as tie
 
 abbrev Inv-loop : tie.InvT-loop
-Inv-loop input₀ text₀ out₀ p₀ used₀ chunks₀ input text out p used chunks = (used ≤ length out) × (length out ≡ length out₀) × (length input ≡ length input₀)
+Inv-loop input₀ text₀ out₀ p₀ used₀ chunks₀ input text out p used chunks = (length out ≡ length out₀) × (length input ≡ length input₀)
 
 abbrev μ-loop : tie.MeasureT-loop
 μ-loop input₀ text₀ out₀ p₀ used₀ chunks₀ input text out p used chunks = 33554433 - chunks

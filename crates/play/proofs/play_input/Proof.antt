@@ -6,7 +6,7 @@ use Rattle.play.proofs.play_input.Statement.{statement}
 use Rattle.play.proofs.play_input.Tie as tie
 
 abbrev Inv-loop : tie.InvT-loop
-Inv-loop input text₀ out₀ used q₀ filled₀ at₀ text out q filled at = (at ≤ length input) × (filled ≤ length out) × (length out ≡ length out₀)
+Inv-loop input text₀ out₀ used q₀ filled₀ at₀ text out q filled at = (at ≤ length input) × (length out ≡ length out₀)
 
 abbrev μ-loop : tie.MeasureT-loop
 μ-loop input text₀ out₀ used q₀ filled₀ at₀ text out q filled at = length input - at
