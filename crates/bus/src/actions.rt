@@ -149,7 +149,7 @@ fn next_other(i: u8, j: u8) -> u8
 }
 
 // "no holder left: bus Gapping from 0"
-fn after_free(n: u8, i: u8, holder: [bool; 63]) -> Phase
+fn after_free(n: u8, i: u8, holder: &[bool; 63]) -> Phase
     requires { ⌜ n ≤ 63 ⌝ }
     requires { ⌜ i < 63 ⌝ }
     ensures { λ r. ⌜ r ≡ afterFree n i (mark holder) ⌝ }
@@ -169,7 +169,7 @@ fn freed(c: Cell) -> Cell
 }
 
 // A Spurious node puts out its End, which reaches nobody.
-fn free(n: u8, phase: Phase, i: u8, c: Cell, holder: [bool; 63]) -> Plan
+fn free(n: u8, phase: Phase, i: u8, c: Cell, holder: &[bool; 63]) -> Plan
     requires { ⌜ n ≤ 63 ⌝ }
     requires { ⌜ i < 63 ⌝ }
     ensures { λ r. ⌜ r ≡ settled phase c (clockWith n i c (mark holder) O.Frees) ⌝ }
@@ -215,7 +215,7 @@ fn put_alone(
     phase: Phase,
     i: u8,
     c: Cell,
-    holder: [bool; 63],
+    holder: &[bool; 63],
     s: Signal,
     m: Mode,
     report: Report,
@@ -234,7 +234,7 @@ fn put_alone(
 }
 
 // 4. clock
-pub(crate) fn clock(n: u8, phase: Phase, i: u8, c: Cell, holder: [bool; 63]) -> Plan
+pub(crate) fn clock(n: u8, phase: Phase, i: u8, c: Cell, holder: &[bool; 63]) -> Plan
     requires { ⌜ n ≤ 63 ⌝ }
     requires { ⌜ i < 63 ⌝ }
     ensures { λ r. ⌜ r ≡ settled phase c (clock n phase i c (mark holder)) ⌝ }
@@ -253,7 +253,7 @@ pub(crate) fn clock(n: u8, phase: Phase, i: u8, c: Cell, holder: [bool; 63]) -> 
 }
 
 // The phase once node j has got node i's signal; `own` is then the pending mark of node j.
-fn onward(n: u8, i: u8, s: Signal, j: u8, pending: [bool; 63], own: bool) -> Phase
+fn onward(n: u8, i: u8, s: Signal, j: u8, pending: &[bool; 63], own: bool) -> Phase
     requires { ⌜ n ≤ 63 ⌝ }
     requires { ⌜ j < 63 ⌝ }
     ensures { λ r. ⌜ r ≡ onward n i s j (upd (mark pending) j own) ⌝ }
@@ -290,7 +290,7 @@ fn hearing(c: Cell, heard: Heard, misleads: bool) -> Cell
 }
 
 // Node j's cell is c once node i's signal has been carried there.
-fn delivers(n: u8, i: u8, s: Signal, j: u8, pending: [bool; 63], report: Report, c: Cell) -> Plan
+fn delivers(n: u8, i: u8, s: Signal, j: u8, pending: &[bool; 63], report: Report, c: Cell) -> Plan
     requires { ⌜ n ≤ 63 ⌝ }
     requires { ⌜ j < 63 ⌝ }
     ensures { λ r. ⌜ r ≡ doing report (onward n i s j (upd (mark pending) j (c .pending))) c C.Nothing ⌝ }
@@ -307,7 +307,7 @@ fn deliver(
     s: Signal,
     j: u8,
     c: Cell,
-    pending: [bool; 63],
+    pending: &[bool; 63],
     way: Way,
 ) -> Plan
     requires { ⌜ n ≤ 63 ⌝ }
@@ -328,7 +328,7 @@ fn deliver(
 }
 
 // 5. pass, 6. lose, 7. change
-pub(crate) fn carry(n: u8, phase: Phase, c: Cell, pending: [bool; 63], way: Way) -> Plan
+pub(crate) fn carry(n: u8, phase: Phase, c: Cell, pending: &[bool; 63], way: Way) -> Plan
     requires { ⌜ n ≤ 63 ⌝ }
     requires { ⌜ phaseFits n phase ≡ true ⌝ }
     ensures { λ r. ⌜ r ≡ settled phase c (carry n phase c (mark pending) way) ⌝ }
@@ -347,7 +347,7 @@ pub(crate) fn carry(n: u8, phase: Phase, c: Cell, pending: [bool; 63], way: Way)
 }
 
 // "If none is pending after that: Busy"
-fn after_grant(n: u8, i: u8, pending: [bool; 63]) -> Phase
+fn after_grant(n: u8, i: u8, pending: &[bool; 63]) -> Phase
     requires { ⌜ n ≤ 63 ⌝ }
     requires { ⌜ i < 63 ⌝ }
     ensures { λ r. ⌜ r ≡ afterGrant n i (mark pending) ⌝ }
@@ -371,7 +371,7 @@ fn take_grant(c: Cell) -> Cell
 }
 
 // 8. grant
-pub(crate) fn grant(n: u8, phase: Phase, i: u8, c: Cell, pending: [bool; 63]) -> Plan
+pub(crate) fn grant(n: u8, phase: Phase, i: u8, c: Cell, pending: &[bool; 63]) -> Plan
     requires { ⌜ n ≤ 63 ⌝ }
     requires { ⌜ i < 63 ⌝ }
     ensures { λ r. ⌜ r ≡ settled phase c (grant n phase i c (mark pending)) ⌝ }
@@ -434,7 +434,7 @@ pub(crate) fn gap(n: u8, phase: Phase, c: Cell) -> Plan
 }
 
 // 10. reset
-pub(crate) fn reset(n: u8, phase: Phase, c: Cell, won: [bool; 63]) -> Plan
+pub(crate) fn reset(n: u8, phase: Phase, c: Cell, won: &[bool; 63]) -> Plan
     requires { ⌜ n ≤ 63 ⌝ }
     ensures { λ r. ⌜ r ≡ settled phase c (reset n phase c (mark won)) ⌝ }
 {

@@ -20,7 +20,7 @@ use charts::Phase;
 const NOT_VALID: u8 = 12;
 
 // The node that an action is about.
-fn target(n: u8, phase: Phase, pending: [bool; 63], m: Move) -> u8
+fn target(n: u8, phase: Phase, pending: &[bool; 63], m: Move) -> u8
     requires { ⌜ n ≤ 63 ⌝ }
     ensures { λ r. ⌜ r ≡ target n phase (mark pending) m ⌝ }
 {
@@ -46,9 +46,9 @@ fn play(
     phase: Phase,
     i: u8,
     c: Cell,
-    won: [bool; 63],
-    pending: [bool; 63],
-    holder: [bool; 63],
+    won: &[bool; 63],
+    pending: &[bool; 63],
+    holder: &[bool; 63],
     m: Move,
 ) -> Plan
     requires { ⌜ n ≤ 63 ⌝ }
@@ -79,7 +79,7 @@ fn number_of(d: Decoded) -> u8
 }
 
 // The node that a record is about; a refused one is about none, and node 0's cell stays.
-pub(crate) fn aim(n: u8, phase: Phase, pending: [bool; 63], d: Decoded) -> u8
+pub(crate) fn aim(n: u8, phase: Phase, pending: &[bool; 63], d: Decoded) -> u8
     requires { ⌜ Ready n phase (mark pending) d ⌝ }
     ensures { λ r. ⌜ r ≡ aimed n phase (mark pending) d ⌝ }
     ensures { λ r. ⌜ r < 63 ⌝ }
@@ -96,9 +96,9 @@ pub(crate) fn decide(
     phase: Phase,
     i: u8,
     c: Cell,
-    won: [bool; 63],
-    pending: [bool; 63],
-    holder: [bool; 63],
+    won: &[bool; 63],
+    pending: &[bool; 63],
+    holder: &[bool; 63],
     d: Decoded,
 ) -> Plan
     ensures { λ r. ⌜ r ≡ tried n phase i c (mark won) (mark pending) (mark holder) d ⌝ }

@@ -7,7 +7,7 @@ ghost use Rattle.charts.specs.View.{mark};
 ghost use Rattle.bus.specs.Marks.{unmarked};
 
 // Whether a node is marked.
-pub(crate) fn some(marks: [bool; 63], n: u8) -> bool
+pub(crate) fn some(marks: &[bool; 63], n: u8) -> bool
     requires { ⌜ n ≤ 63 ⌝ }
     ensures { λ r. ⌜ r ≡ some (mark marks) n ⌝ }
 {
@@ -22,19 +22,29 @@ pub(crate) fn some(marks: [bool; 63], n: u8) -> bool
     found
 }
 
+fn of(k: u8, i: u8, own: bool, other: bool) -> bool {
+    if k == i { own } else { other }
+}
+
 // Whether a node is marked once the mark of node i is set to `own`.
-pub(crate) fn some_with(marks: [bool; 63], i: u8, own: bool, n: u8) -> bool
+pub(crate) fn some_with(marks: &[bool; 63], i: u8, own: bool, n: u8) -> bool
     requires { ⌜ i < 63 ⌝ }
     requires { ⌜ n ≤ 63 ⌝ }
     ensures { λ r. ⌜ r ≡ some (upd (mark marks) i own) n ⌝ }
 {
-    let mut now = marks;
-    now[i as usize] = own;
-    some(now, n)
+    let mut found = false;
+    let mut k: u8 = 0;
+    while k < n {
+        if of(k, i, own, marks[k as usize]) {
+            found = true;
+        }
+        k += 1;
+    }
+    found
 }
 
 // Whether a node other than i is marked.
-pub(crate) fn others(marks: [bool; 63], i: u8, n: u8) -> bool
+pub(crate) fn others(marks: &[bool; 63], i: u8, n: u8) -> bool
     requires { ⌜ i < 63 ⌝ }
     requires { ⌜ n ≤ 63 ⌝ }
     ensures { λ r. ⌜ r ≡ others (mark marks) i n ⌝ }
@@ -43,7 +53,7 @@ pub(crate) fn others(marks: [bool; 63], i: u8, n: u8) -> bool
 }
 
 // The lowest marked node, else 0.
-pub(crate) fn lowest(marks: [bool; 63], n: u8) -> u8
+pub(crate) fn lowest(marks: &[bool; 63], n: u8) -> u8
     requires { ⌜ n ≤ 63 ⌝ }
     ensures { λ r. ⌜ r ≡ lowest (mark marks) n 0 ⌝ }
 {
@@ -58,23 +68,23 @@ pub(crate) fn lowest(marks: [bool; 63], n: u8) -> u8
     found
 }
 
-fn cleared(marks: [bool; 63], n: u8) -> [bool; 63]
+fn wipe(marks: &mut [bool; 63], n: u8)
     requires { ⌜ n ≤ 63 ⌝ }
-    ensures { λ r. ⌜ mark r ≡ unmarked true n (mark marks) ⌝ }
+    ensures { λ _. ⌜ mark (now (marks .exit)) ≡ unmarked true n (mark (now (marks .entry))) ⌝ }
 {
-    let mut next = marks;
     let mut i: u8 = 0;
     while i < n {
-        next[i as usize] = false;
+        marks[i as usize] = false;
         i += 1;
     }
-    next
 }
 
-// The marks, with those of all nodes cleared if it is asked.
-pub(crate) fn clear(marks: [bool; 63], asked: bool, n: u8) -> [bool; 63]
+// Clears the marks of all nodes if it is asked.
+pub(crate) fn clear(marks: &mut [bool; 63], asked: bool, n: u8)
     requires { ⌜ (asked ≡ true → n ≤ 63) ⌝ }
-    ensures { λ r. ⌜ mark r ≡ unmarked asked n (mark marks) ⌝ }
+    ensures { λ _. ⌜ mark (now (marks .exit)) ≡ unmarked asked n (mark (now (marks .entry))) ⌝ }
 {
-    if asked { cleared(marks, n) } else { marks }
+    if asked {
+        wipe(marks, n);
+    }
 }
