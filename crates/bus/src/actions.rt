@@ -403,7 +403,7 @@ fn gap_at(n: u8, j: u8, c: Cell) -> Plan
     ensures { λ r. ⌜ r ≡ settled (P.Gapping j) c (gap n (P.Gapping j) c) ⌝ }
 {
     let mode = c.mode;
-    let heard = link::receive(j, mode, Signal::Gap);
+    let heard = link::hear_gap(j, mode);
     let next = heard.mode;
     let report = heard.report;
     plans::does(

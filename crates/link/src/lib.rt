@@ -150,6 +150,36 @@ pub fn receive(me: u8, mode: Mode, s: Signal) -> Heard
     }
 }
 
+pub fn hear_gap(me: u8, mode: Mode) -> Heard
+{
+    match mode {
+        Mode::Rest => goes(Mode::Rest),
+        Mode::AwaitAck => tells(Mode::Rest, Report::Miss(me)),
+        Mode::AckBody => tells(Mode::Rest, Report::Miss(me)),
+        Mode::AckEnd(_) => tells(Mode::Rest, Report::Miss(me)),
+        Mode::Opened => goes(Mode::Rest),
+        Mode::Addressed => goes(Mode::Rest),
+        Mode::HeadOwn => goes(Mode::Owed),
+        Mode::HeadAll => goes(Mode::Rest),
+        Mode::BodyOwn(h) => goes(Mode::Owed),
+        Mode::BodyAll(h) => goes(Mode::Rest),
+        Mode::TailOwn(h, d) => goes(Mode::Owed),
+        Mode::TailAll(h, d) => goes(Mode::Rest),
+        Mode::Wait => goes(Mode::Rest),
+        Mode::Owed => goes(mode),
+        Mode::Sending(_) => goes(mode),
+        Mode::Told => goes(mode),
+        Mode::Answering => goes(mode),
+        Mode::Acking {
+            step: _,
+            ack: _,
+            hold: _,
+        } => goes(mode),
+        Mode::Holding => goes(mode),
+        Mode::Spurious => goes(mode),
+    }
+}
+
 fn puts(s: Signal, mode: Mode) -> Output
     ensures { λ r. ⌜ r ≡ puts s mode ⌝ }
 {
