@@ -7,7 +7,7 @@ ghost use Rattle.bus.specs.Advance.{glance, advanceOf};
 ghost use mathlib.Core.Bool.{_&&_};
 ghost use Prim.Native.Nat.{_<_};
 ghost use lib.Dec.{ltb};
-ghost use Rattle.bus.specs.Marks.{unmarked, clearsMisled, clearsWon};
+ghost use Rattle.bus.specs.Marks.{unmarked};
 ghost use Rattle.bus.specs.Plans.{Ready, aimed, tried};
 use crate::plans::Plan;
 use charts::Action;
@@ -15,7 +15,6 @@ use charts::Begun;
 use charts::Buffer;
 use charts::Bus;
 use charts::Cell;
-use charts::Clears;
 use charts::Decoded;
 use charts::Head;
 use charts::Mode;
@@ -106,8 +105,8 @@ fn carry_out(b: Bus, d: Decoded) -> Played
     holder[at] = next.holder;
     misled[at] = next.misled;
     let clears = plan.clears;
-    marks::clear(&mut misled, plans::clears_misled(clears), n);
-    marks::clear(&mut won, plans::clears_won(clears), n);
+    clear(&mut misled, plans::clears_misled(clears), n);
+    clear(&mut won, plans::clears_won(clears), n);
     let phase_then = plan.phase;
     let report = plan.report;
     let then = Bus {
@@ -171,7 +170,7 @@ pub struct Aimed {
 // For a player that keeps the nodes' records and the marks in its own arrays and plays in place: at which node `advance` reads and writes.
 pub fn aim(n: u8, phase: Phase, pending: &[bool; 63], a: Action) -> Aimed
     ensures { λ r. ⌜ r .decoded ≡ glance n phase a ⌝ }
-    ensures { λ r. ⌜ r .node ≡ aimed n phase (mark pending) (glance n phase a) ⌝ }
+    ensures { λ r. ⌜ r .node ≡ aimed n phase (mark (now (pending .entry))) (glance n phase a) ⌝ }
     ensures { λ r. ⌜ r .node < 63 ⌝ }
 {
     let decoded = glance(n, phase, a);
@@ -193,21 +192,16 @@ pub fn plan(
     holder: &[bool; 63],
     d: Decoded,
 ) -> Plan
-    ensures { λ r. ⌜ r ≡ tried n phase i c (mark won) (mark pending) (mark holder) d ⌝ }
+    ensures { λ r. ⌜ r ≡ tried n phase i c (mark (now (won .entry))) (mark (now (pending .entry))) (mark (now (holder .entry))) d ⌝ }
 {
     decide::decide(n, phase, i, c, won, pending, holder, d)
 }
 
-// The misled marks once a plan is carried out; a bus has at most 63 nodes.
-pub fn clear_misled(misled: &mut [bool; 63], clears: Clears, n: u8)
-    ensures { λ _. ⌜ mark (now (misled .exit)) ≡ unmarked (clearsMisled clears && ltb n 64) n (mark (now (misled .entry))) ⌝ }
+// Clears the marks of all nodes if it is asked; a bus has at most 63 of them.
+pub fn clear(marks: &mut [bool; 63], asked: bool, n: u8)
+    ensures { λ _. ⌜ mark (now (marks .exit)) ≡ unmarked (asked && ltb n 64) n (mark (now (marks .entry))) ⌝ }
 {
-    marks::clear(misled, bools::both(plans::clears_misled(clears), n < 64), n);
-}
-
-// The won marks once a plan is carried out.
-pub fn clear_won(won: &mut [bool; 63], clears: Clears, n: u8)
-    ensures { λ _. ⌜ mark (now (won .exit)) ≡ unmarked (clearsWon clears && ltb n 64) n (mark (now (won .entry))) ⌝ }
-{
-    marks::clear(won, bools::both(plans::clears_won(clears), n < 64), n);
+    if bools::both(asked, n < 64) {
+        marks::wipe(marks, n);
+    }
 }

@@ -1,41 +1,28 @@
 // Scans of one mark of all nodes. Nodes from n on are neither read nor changed.
 ghost use mathlib.Core.Path.{_≡_};
-ghost use mathlib.Core.Bool.{true};
-ghost use Prim.Native.Nat.{_<_, _≤_};
+ghost use mathlib.Core.Bool.{true, cond};
+ghost use Prim.Native.Nat.{_≤_};
+ghost use lib.Dec.{eqb};
 ghost use Rattle.charts.specs.State.{some, others, lowest, upd};
 ghost use Rattle.charts.specs.View.{mark};
 ghost use Rattle.bus.specs.Marks.{unmarked};
 
-// Whether a node is marked.
-pub(crate) fn some(marks: &[bool; 63], n: u8) -> bool
-    requires { ⌜ n ≤ 63 ⌝ }
-    ensures { λ r. ⌜ r ≡ some (mark marks) n ⌝ }
+// The mark of node k once that of node i is set to `own`.
+fn mark_with(k: u8, mark: bool, i: u8, own: bool) -> bool
+    ensures { λ r. ⌜ r ≡ cond (eqb k i) own mark ⌝ }
 {
-    let mut found = false;
-    let mut k: u8 = 0;
-    while k < n {
-        if marks[k as usize] {
-            found = true;
-        }
-        k += 1;
-    }
-    found
-}
-
-fn of(k: u8, i: u8, own: bool, other: bool) -> bool {
-    if k == i { own } else { other }
+    if k == i { own } else { mark }
 }
 
 // Whether a node is marked once the mark of node i is set to `own`.
 pub(crate) fn some_with(marks: &[bool; 63], i: u8, own: bool, n: u8) -> bool
-    requires { ⌜ i < 63 ⌝ }
     requires { ⌜ n ≤ 63 ⌝ }
-    ensures { λ r. ⌜ r ≡ some (upd (mark marks) i own) n ⌝ }
+    ensures { λ r. ⌜ r ≡ some (upd (mark (now (marks .entry))) i own) n ⌝ }
 {
     let mut found = false;
     let mut k: u8 = 0;
     while k < n {
-        if of(k, i, own, marks[k as usize]) {
+        if mark_with(k, marks[k as usize], i, own) {
             found = true;
         }
         k += 1;
@@ -43,11 +30,18 @@ pub(crate) fn some_with(marks: &[bool; 63], i: u8, own: bool, n: u8) -> bool
     found
 }
 
+// Whether a node is marked: no node is 63.
+pub(crate) fn some(marks: &[bool; 63], n: u8) -> bool
+    requires { ⌜ n ≤ 63 ⌝ }
+    ensures { λ r. ⌜ r ≡ some (mark (now (marks .entry))) n ⌝ }
+{
+    some_with(marks, 63, false, n)
+}
+
 // Whether a node other than i is marked.
 pub(crate) fn others(marks: &[bool; 63], i: u8, n: u8) -> bool
-    requires { ⌜ i < 63 ⌝ }
     requires { ⌜ n ≤ 63 ⌝ }
-    ensures { λ r. ⌜ r ≡ others (mark marks) i n ⌝ }
+    ensures { λ r. ⌜ r ≡ others (mark (now (marks .entry))) i n ⌝ }
 {
     some_with(marks, i, false, n)
 }
@@ -55,7 +49,7 @@ pub(crate) fn others(marks: &[bool; 63], i: u8, n: u8) -> bool
 // The lowest marked node, else 0.
 pub(crate) fn lowest(marks: &[bool; 63], n: u8) -> u8
     requires { ⌜ n ≤ 63 ⌝ }
-    ensures { λ r. ⌜ r ≡ lowest (mark marks) n 0 ⌝ }
+    ensures { λ r. ⌜ r ≡ lowest (mark (now (marks .entry))) n 0 ⌝ }
 {
     let mut found: u8 = 0;
     let mut k = n;
@@ -68,7 +62,8 @@ pub(crate) fn lowest(marks: &[bool; 63], n: u8) -> u8
     found
 }
 
-fn wipe(marks: &mut [bool; 63], n: u8)
+// Clears the marks of all nodes.
+pub(crate) fn wipe(marks: &mut [bool; 63], n: u8)
     requires { ⌜ n ≤ 63 ⌝ }
     ensures { λ _. ⌜ mark (now (marks .exit)) ≡ unmarked true n (mark (now (marks .entry))) ⌝ }
 {
@@ -76,15 +71,5 @@ fn wipe(marks: &mut [bool; 63], n: u8)
     while i < n {
         marks[i as usize] = false;
         i += 1;
-    }
-}
-
-// Clears the marks of all nodes if it is asked.
-pub(crate) fn clear(marks: &mut [bool; 63], asked: bool, n: u8)
-    requires { ⌜ (asked ≡ true → n ≤ 63) ⌝ }
-    ensures { λ _. ⌜ mark (now (marks .exit)) ≡ unmarked asked n (mark (now (marks .entry))) ⌝ }
-{
-    if asked {
-        wipe(marks, n);
     }
 }

@@ -121,8 +121,8 @@ pub(crate) fn play_actions(
         holder[i] = next.holder;
         misled[i] = next.misled;
         let clears = plan.clears;
-        bus::clear_won(&mut won, clears, n);
-        bus::clear_misled(&mut misled, clears, n);
+        bus::clear(&mut won, bus::plans::clears_won(clears), n);
+        bus::clear(&mut misled, bus::plans::clears_misled(clears), n);
         phase = plan.phase;
         let index = first + k as u64;
         if plan.number != 0 {
