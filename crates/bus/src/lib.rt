@@ -7,6 +7,7 @@ ghost use Rattle.bus.specs.Advance.{glance, advanceOf};
 ghost use mathlib.Core.Bool.{_&&_};
 ghost use Prim.Native.Nat.{_<_};
 ghost use lib.Dec.{ltb};
+ghost use lib.ListN.{length};
 ghost use Rattle.bus.specs.Marks.{unmarked};
 ghost use Rattle.bus.specs.Plans.{Ready, aimed, tried};
 use crate::plans::Plan;
@@ -199,6 +200,7 @@ pub fn plan(
 
 // Clears the marks of all nodes if it is asked; a bus has at most 63 of them.
 pub fn clear(marks: &mut [bool; 63], asked: bool, n: u8)
+    ensures { λ _. ⌜ length (now (marks .exit)) ≡ length (now (marks .entry)) ⌝ }
     ensures { λ _. ⌜ mark (now (marks .exit)) ≡ unmarked (asked && ltb n 64) n (mark (now (marks .entry))) ⌝ }
 {
     if bools::both(asked, n < 64) {

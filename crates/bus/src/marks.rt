@@ -3,6 +3,7 @@ ghost use mathlib.Core.Path.{_≡_};
 ghost use mathlib.Core.Bool.{true, cond};
 ghost use Prim.Native.Nat.{_≤_};
 ghost use lib.Dec.{eqb};
+ghost use lib.ListN.{length};
 ghost use Rattle.charts.specs.State.{some, others, lowest, upd};
 ghost use Rattle.charts.specs.View.{mark};
 ghost use Rattle.bus.specs.Marks.{unmarked};
@@ -65,6 +66,7 @@ pub(crate) fn lowest(marks: &[bool; 63], n: u8) -> u8
 // Clears the marks of all nodes.
 pub(crate) fn wipe(marks: &mut [bool; 63], n: u8)
     requires { ⌜ n ≤ 63 ⌝ }
+    ensures { λ _. ⌜ length (now (marks .exit)) ≡ length (now (marks .entry)) ⌝ }
     ensures { λ _. ⌜ mark (now (marks .exit)) ≡ unmarked true n (mark (now (marks .entry))) ⌝ }
 {
     let mut i: u8 = 0;

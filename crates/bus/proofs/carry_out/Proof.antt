@@ -91,7 +91,7 @@ returns c =
     let asks-misled = c .before .before .before .before .clears-misled in
     let asks-won = c .before .clears-won in
     carries b (c .before .before .before .before .before .before .before .before .before .before .before .before .before .before .before .before .before .before .before .before .before .args .d) (aim .result) (cell .result) (plan .result) (sized (c .before .before .before .before .before .before .before .before .before .before .before .before .before .before .before .before .before .before .before .before .before)) (c .before .before .before .before .before .before .before .before .before .before .before .before .before .before .before .before .before .before .before .before .before .pre) (aim .ensures .1) (aim .ensures .0) (cell .ensures) (plan .ensures)
-    (node .result) (c .clear2 .last .0) (c .before .before .before .clear .last .0) (asks-won .result) (asks-misled .result) (node .ensures) (asks-won .ensures) (c .clear2 .ensures) (asks-misled .ensures) (c .before .before .before .clear .ensures)
+    (node .result) (c .clear2 .last .0) (c .before .before .before .clear .last .0) (asks-won .result) (asks-misled .result) (node .ensures) (asks-won .ensures) (c .clear2 .ensures .1) (asks-misled .ensures) (c .before .before .before .clear .ensures .1)
 
 pub carry-out-spec : {M : Type 1} → statement M
 carry-out-spec =

@@ -1,4 +1,4 @@
-use mathlib.Core.Path.{sym, _∙_}
+use mathlib.Core.Path.{refl, sym, _∙_}
 use native.Mathlib.Omega.{arith}
 use lib.Dec.{ltb}
 use borrow.Author.Tests.{ltb-true}
@@ -17,10 +17,10 @@ wipe-requires c κs =
     omega arith
 
 returns : tie.Need-returns
-returns c = rw (← c .before .before .before .both .ensures, c .before .before .if1 .taken) (c .wipe .ensures)
+returns c = (c .wipe .ensures .0, rw (← c .before .before .before .both .ensures, c .before .before .if1 .taken) (c .wipe .ensures .1))
 
 returns-2 : tie.Need-returns-2
-returns-2 c = rw (← c .before .both .ensures, c .if1 .left)
+returns-2 c = (refl, rw (← c .before .both .ensures, c .if1 .left))
 
 pub clear-spec : {M : Type 1} → statement M
 clear-spec = tie.close (tie.spec both-requires wipe-requires returns returns-2)
