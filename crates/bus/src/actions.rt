@@ -149,10 +149,10 @@ fn next_other(i: u8, j: u8) -> u8
 }
 
 // "no holder left: bus Gapping from 0"
-fn after_free(n: u8, i: u8, holder: [bool; 63]) -> Phase
+fn after_free(n: u8, i: u8, holder: &[bool; 63]) -> Phase
     requires { ⌜ n ≤ 63 ⌝ }
     requires { ⌜ i < 63 ⌝ }
-    ensures { λ r. ⌜ r ≡ afterFree n i (mark holder) ⌝ }
+    ensures { λ r. ⌜ r ≡ afterFree n i (mark (now (holder .entry))) ⌝ }
 {
     if marks::others(holder, i, n) {
         Phase::Busy
@@ -169,10 +169,10 @@ fn freed(c: Cell) -> Cell
 }
 
 // A Spurious node puts out its End, which reaches nobody.
-fn free(n: u8, phase: Phase, i: u8, c: Cell, holder: [bool; 63]) -> Plan
+fn free(n: u8, phase: Phase, i: u8, c: Cell, holder: &[bool; 63]) -> Plan
     requires { ⌜ n ≤ 63 ⌝ }
     requires { ⌜ i < 63 ⌝ }
-    ensures { λ r. ⌜ r ≡ settled phase c (clockWith n i c (mark holder) O.Frees) ⌝ }
+    ensures { λ r. ⌜ r ≡ settled phase c (clockWith n i c (mark (now (holder .entry))) O.Frees) ⌝ }
 {
     if !c.holder {
         return plans::closed(phase, c);
@@ -215,14 +215,14 @@ fn put_alone(
     phase: Phase,
     i: u8,
     c: Cell,
-    holder: [bool; 63],
+    holder: &[bool; 63],
     s: Signal,
     m: Mode,
     report: Report,
 ) -> Plan
     requires { ⌜ n ≤ 63 ⌝ }
     requires { ⌜ i < 63 ⌝ }
-    ensures { λ r. ⌜ r ≡ settled phase c (clockWith n i c (mark holder) (O.Puts s m report)) ⌝ }
+    ensures { λ r. ⌜ r ≡ settled phase c (clockWith n i c (mark (now (holder .entry))) (O.Puts s m report)) ⌝ }
 {
     if !c.holder {
         return plans::closed(phase, c);
@@ -234,10 +234,10 @@ fn put_alone(
 }
 
 // 4. clock
-pub(crate) fn clock(n: u8, phase: Phase, i: u8, c: Cell, holder: [bool; 63]) -> Plan
+pub(crate) fn clock(n: u8, phase: Phase, i: u8, c: Cell, holder: &[bool; 63]) -> Plan
     requires { ⌜ n ≤ 63 ⌝ }
     requires { ⌜ i < 63 ⌝ }
-    ensures { λ r. ⌜ r ≡ settled phase c (clock n phase i c (mark holder)) ⌝ }
+    ensures { λ r. ⌜ r ≡ settled phase c (clock n phase i c (mark (now (holder .entry)))) ⌝ }
 {
     if !phases::is_busy(phase) {
         return plans::closed(phase, c);
@@ -253,10 +253,10 @@ pub(crate) fn clock(n: u8, phase: Phase, i: u8, c: Cell, holder: [bool; 63]) -> 
 }
 
 // The phase once node j has got node i's signal; `own` is then the pending mark of node j.
-fn onward(n: u8, i: u8, s: Signal, j: u8, pending: [bool; 63], own: bool) -> Phase
+fn onward(n: u8, i: u8, s: Signal, j: u8, pending: &[bool; 63], own: bool) -> Phase
     requires { ⌜ n ≤ 63 ⌝ }
     requires { ⌜ j < 63 ⌝ }
-    ensures { λ r. ⌜ r ≡ onward n i s j (upd (mark pending) j own) ⌝ }
+    ensures { λ r. ⌜ r ≡ onward n i s j (upd (mark (now (pending .entry))) j own) ⌝ }
 {
     let next = next_other(i, j);
     if next < n {
@@ -290,10 +290,10 @@ fn hearing(c: Cell, heard: Heard, misleads: bool) -> Cell
 }
 
 // Node j's cell is c once node i's signal has been carried there.
-fn delivers(n: u8, i: u8, s: Signal, j: u8, pending: [bool; 63], report: Report, c: Cell) -> Plan
+fn delivers(n: u8, i: u8, s: Signal, j: u8, pending: &[bool; 63], report: Report, c: Cell) -> Plan
     requires { ⌜ n ≤ 63 ⌝ }
     requires { ⌜ j < 63 ⌝ }
-    ensures { λ r. ⌜ r ≡ doing report (onward n i s j (upd (mark pending) j (c .pending))) c C.Nothing ⌝ }
+    ensures { λ r. ⌜ r ≡ doing report (onward n i s j (upd (mark (now (pending .entry))) j (c .pending))) c C.Nothing ⌝ }
 {
     let phase = onward(n, i, s, j, pending, c.pending);
     plans::does(report, phase, c, Clears::Nothing)
@@ -307,12 +307,12 @@ fn deliver(
     s: Signal,
     j: u8,
     c: Cell,
-    pending: [bool; 63],
+    pending: &[bool; 63],
     way: Way,
 ) -> Plan
     requires { ⌜ n ≤ 63 ⌝ }
     requires { ⌜ j < 63 ⌝ }
-    ensures { λ r. ⌜ r ≡ settled phase c (deliverWith n i s j c (mark pending) (arrives way (c .misled) s)) ⌝ }
+    ensures { λ r. ⌜ r ≡ settled phase c (deliverWith n i s j c (mark (now (pending .entry))) (arrives way (c .misled) s)) ⌝ }
 {
     let arrival = link::arrive(way, c.misled, s);
     match arrival {
@@ -328,10 +328,10 @@ fn deliver(
 }
 
 // 5. pass, 6. lose, 7. change
-pub(crate) fn carry(n: u8, phase: Phase, c: Cell, pending: [bool; 63], way: Way) -> Plan
+pub(crate) fn carry(n: u8, phase: Phase, c: Cell, pending: &[bool; 63], way: Way) -> Plan
     requires { ⌜ n ≤ 63 ⌝ }
     requires { ⌜ phaseFits n phase ≡ true ⌝ }
-    ensures { λ r. ⌜ r ≡ settled phase c (carry n phase c (mark pending) way) ⌝ }
+    ensures { λ r. ⌜ r ≡ settled phase c (carry n phase c (mark (now (pending .entry))) way) ⌝ }
 {
     match phase {
         Phase::Idle => plans::closed(phase, c),
@@ -347,10 +347,10 @@ pub(crate) fn carry(n: u8, phase: Phase, c: Cell, pending: [bool; 63], way: Way)
 }
 
 // "If none is pending after that: Busy"
-fn after_grant(n: u8, i: u8, pending: [bool; 63]) -> Phase
+fn after_grant(n: u8, i: u8, pending: &[bool; 63]) -> Phase
     requires { ⌜ n ≤ 63 ⌝ }
     requires { ⌜ i < 63 ⌝ }
-    ensures { λ r. ⌜ r ≡ afterGrant n i (mark pending) ⌝ }
+    ensures { λ r. ⌜ r ≡ afterGrant n i (mark (now (pending .entry))) ⌝ }
 {
     if marks::others(pending, i, n) {
         Phase::Granting
@@ -371,10 +371,10 @@ fn take_grant(c: Cell) -> Cell
 }
 
 // 8. grant
-pub(crate) fn grant(n: u8, phase: Phase, i: u8, c: Cell, pending: [bool; 63]) -> Plan
+pub(crate) fn grant(n: u8, phase: Phase, i: u8, c: Cell, pending: &[bool; 63]) -> Plan
     requires { ⌜ n ≤ 63 ⌝ }
     requires { ⌜ i < 63 ⌝ }
-    ensures { λ r. ⌜ r ≡ settled phase c (grant n phase i c (mark pending)) ⌝ }
+    ensures { λ r. ⌜ r ≡ settled phase c (grant n phase i c (mark (now (pending .entry)))) ⌝ }
 {
     if !phases::is_granting(phase) {
         return plans::closed(phase, c);
@@ -403,7 +403,7 @@ fn gap_at(n: u8, j: u8, c: Cell) -> Plan
     ensures { λ r. ⌜ r ≡ settled (P.Gapping j) c (gap n (P.Gapping j) c) ⌝ }
 {
     let mode = c.mode;
-    let heard = link::receive(j, mode, Signal::Gap);
+    let heard = link::receive_gap(j, mode);
     let next = heard.mode;
     let report = heard.report;
     plans::does(
@@ -434,9 +434,9 @@ pub(crate) fn gap(n: u8, phase: Phase, c: Cell) -> Plan
 }
 
 // 10. reset
-pub(crate) fn reset(n: u8, phase: Phase, c: Cell, won: [bool; 63]) -> Plan
+pub(crate) fn reset(n: u8, phase: Phase, c: Cell, won: &[bool; 63]) -> Plan
     requires { ⌜ n ≤ 63 ⌝ }
-    ensures { λ r. ⌜ r ≡ settled phase c (reset n phase c (mark won)) ⌝ }
+    ensures { λ r. ⌜ r ≡ settled phase c (reset n phase c (mark (now (won .entry)))) ⌝ }
 {
     if !phases::is_idle(phase) {
         return plans::closed(phase, c);

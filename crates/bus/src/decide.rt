@@ -20,9 +20,9 @@ use charts::Phase;
 const NOT_VALID: u8 = 12;
 
 // The node that an action is about.
-fn target(n: u8, phase: Phase, pending: [bool; 63], m: Move) -> u8
+fn target(n: u8, phase: Phase, pending: &[bool; 63], m: Move) -> u8
     requires { ⌜ n ≤ 63 ⌝ }
-    ensures { λ r. ⌜ r ≡ target n phase (mark pending) m ⌝ }
+    ensures { λ r. ⌜ r ≡ target n phase (mark (now (pending .entry))) m ⌝ }
 {
     match m {
         Move::Request { node, packet: _ } => node,
@@ -46,15 +46,15 @@ fn play(
     phase: Phase,
     i: u8,
     c: Cell,
-    won: [bool; 63],
-    pending: [bool; 63],
-    holder: [bool; 63],
+    won: &[bool; 63],
+    pending: &[bool; 63],
+    holder: &[bool; 63],
     m: Move,
 ) -> Plan
     requires { ⌜ n ≤ 63 ⌝ }
     requires { ⌜ phaseFits n phase ≡ true ⌝ }
     requires { ⌜ i < 63 ⌝ }
-    ensures { λ r. ⌜ r ≡ settled phase c (outcome n phase i c (mark won) (mark pending) (mark holder) m) ⌝ }
+    ensures { λ r. ⌜ r ≡ settled phase c (outcome n phase i c (mark (now (won .entry))) (mark (now (pending .entry))) (mark (now (holder .entry))) m) ⌝ }
 {
     match m {
         Move::Request { node: _, packet } => actions::request(phase, c, packet),
@@ -79,9 +79,9 @@ fn number_of(d: Decoded) -> u8
 }
 
 // The node that a record is about; a refused one is about none, and node 0's cell stays.
-pub(crate) fn aim(n: u8, phase: Phase, pending: [bool; 63], d: Decoded) -> u8
-    requires { ⌜ Ready n phase (mark pending) d ⌝ }
-    ensures { λ r. ⌜ r ≡ aimed n phase (mark pending) d ⌝ }
+pub(crate) fn aim(n: u8, phase: Phase, pending: &[bool; 63], d: Decoded) -> u8
+    requires { ⌜ Ready n phase (mark (now pending)) d ⌝ }
+    ensures { λ r. ⌜ r ≡ aimed n phase (mark (now (pending .entry))) d ⌝ }
     ensures { λ r. ⌜ r < 63 ⌝ }
 {
     let Decoded::Accepted(m) = d else {
@@ -96,12 +96,12 @@ pub(crate) fn decide(
     phase: Phase,
     i: u8,
     c: Cell,
-    won: [bool; 63],
-    pending: [bool; 63],
-    holder: [bool; 63],
+    won: &[bool; 63],
+    pending: &[bool; 63],
+    holder: &[bool; 63],
     d: Decoded,
 ) -> Plan
-    ensures { λ r. ⌜ r ≡ tried n phase i c (mark won) (mark pending) (mark holder) d ⌝ }
+    ensures { λ r. ⌜ r ≡ tried n phase i c (mark (now (won .entry))) (mark (now (pending .entry))) (mark (now (holder .entry))) d ⌝ }
 {
     let Decoded::Accepted(m) = d else {
         return plans::refuse(number_of(d), phase, c);

@@ -7,7 +7,8 @@ ghost use Rattle.bus.specs.Advance.{glance, advanceOf};
 ghost use mathlib.Core.Bool.{_&&_};
 ghost use Prim.Native.Nat.{_<_};
 ghost use lib.Dec.{ltb};
-ghost use Rattle.bus.specs.Marks.{unmarked, clearsMisled, clearsWon};
+ghost use lib.ListN.{length};
+ghost use Rattle.bus.specs.Marks.{unmarked};
 ghost use Rattle.bus.specs.Plans.{Ready, aimed, tried};
 use crate::plans::Plan;
 use charts::Action;
@@ -15,7 +16,6 @@ use charts::Begun;
 use charts::Buffer;
 use charts::Bus;
 use charts::Cell;
-use charts::Clears;
 use charts::Decoded;
 use charts::Head;
 use charts::Mode;
@@ -94,11 +94,11 @@ fn carry_out(b: Bus, d: Decoded) -> Played
     let mut pending = b.pending;
     let mut holder = b.holder;
     let mut misled = b.misled;
-    let i = decide::aim(n, phase, pending, d);
+    let i = decide::aim(n, phase, &pending, d);
     let at = i as usize;
     let node = nodes[at];
     let c = cells::cell_of(node, won[at], pending[at], holder[at], misled[at]);
-    let plan = decide::decide(n, phase, i, c, won, pending, holder, d);
+    let plan = decide::decide(n, phase, i, c, &won, &pending, &holder, d);
     let next = plan.cell;
     nodes[at] = cells::node_of(next);
     won[at] = next.won;
@@ -106,18 +106,18 @@ fn carry_out(b: Bus, d: Decoded) -> Played
     holder[at] = next.holder;
     misled[at] = next.misled;
     let clears = plan.clears;
-    let misled_then = marks::clear(misled, plans::clears_misled(clears), n);
-    let won_then = marks::clear(won, plans::clears_won(clears), n);
+    clear(&mut misled, plans::clears_misled(clears), n);
+    clear(&mut won, plans::clears_won(clears), n);
     let phase_then = plan.phase;
     let report = plan.report;
     let then = Bus {
         n: n,
         phase: phase_then,
         nodes: nodes,
-        won: won_then,
+        won: won,
         pending: pending,
         holder: holder,
-        misled: misled_then,
+        misled: misled,
     };
     Played {
         number: plan.number,
@@ -169,9 +169,9 @@ pub struct Aimed {
 }
 
 // For a player that keeps the nodes' records and the marks in its own arrays and plays in place: at which node `advance` reads and writes.
-pub fn aim(n: u8, phase: Phase, pending: [bool; 63], a: Action) -> Aimed
+pub fn aim(n: u8, phase: Phase, pending: &[bool; 63], a: Action) -> Aimed
     ensures { λ r. ⌜ r .decoded ≡ glance n phase a ⌝ }
-    ensures { λ r. ⌜ r .node ≡ aimed n phase (mark pending) (glance n phase a) ⌝ }
+    ensures { λ r. ⌜ r .node ≡ aimed n phase (mark (now (pending .entry))) (glance n phase a) ⌝ }
     ensures { λ r. ⌜ r .node < 63 ⌝ }
 {
     let decoded = glance(n, phase, a);
@@ -188,26 +188,22 @@ pub fn plan(
     phase: Phase,
     i: u8,
     c: Cell,
-    won: [bool; 63],
-    pending: [bool; 63],
-    holder: [bool; 63],
+    won: &[bool; 63],
+    pending: &[bool; 63],
+    holder: &[bool; 63],
     d: Decoded,
 ) -> Plan
-    ensures { λ r. ⌜ r ≡ tried n phase i c (mark won) (mark pending) (mark holder) d ⌝ }
+    ensures { λ r. ⌜ r ≡ tried n phase i c (mark (now (won .entry))) (mark (now (pending .entry))) (mark (now (holder .entry))) d ⌝ }
 {
     decide::decide(n, phase, i, c, won, pending, holder, d)
 }
 
-// The misled marks once a plan is carried out; a bus has at most 63 nodes.
-pub fn clear_misled(misled: [bool; 63], clears: Clears, n: u8) -> [bool; 63]
-    ensures { λ r. ⌜ mark r ≡ unmarked (clearsMisled clears && ltb n 64) n (mark misled) ⌝ }
+// Clears the marks of all nodes if it is asked; a bus has at most 63 of them.
+pub fn clear(marks: &mut [bool; 63], asked: bool, n: u8)
+    ensures { λ _. ⌜ length (now (marks .exit)) ≡ length (now (marks .entry)) ⌝ }
+    ensures { λ _. ⌜ mark (now (marks .exit)) ≡ unmarked (asked && ltb n 64) n (mark (now (marks .entry))) ⌝ }
 {
-    marks::clear(misled, bools::both(plans::clears_misled(clears), n < 64), n)
-}
-
-// The won marks once a plan is carried out.
-pub fn clear_won(won: [bool; 63], clears: Clears, n: u8) -> [bool; 63]
-    ensures { λ r. ⌜ mark r ≡ unmarked (clearsWon clears && ltb n 64) n (mark won) ⌝ }
-{
-    marks::clear(won, bools::both(plans::clears_won(clears), n < 64), n)
+    if bools::both(asked, n < 64) {
+        marks::wipe(marks, n);
+    }
 }

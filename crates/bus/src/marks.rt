@@ -1,20 +1,29 @@
 // Scans of one mark of all nodes. Nodes from n on are neither read nor changed.
 ghost use mathlib.Core.Path.{_≡_};
-ghost use mathlib.Core.Bool.{true};
-ghost use Prim.Native.Nat.{_<_, _≤_};
+ghost use mathlib.Core.Bool.{true, cond};
+ghost use Prim.Native.Nat.{_≤_};
+ghost use lib.Dec.{eqb};
+ghost use lib.ListN.{length};
 ghost use Rattle.charts.specs.State.{some, others, lowest, upd};
 ghost use Rattle.charts.specs.View.{mark};
 ghost use Rattle.bus.specs.Marks.{unmarked};
 
-// Whether a node is marked.
-pub(crate) fn some(marks: [bool; 63], n: u8) -> bool
+// The mark of node k once that of node i is set to `own`.
+fn mark_with(k: u8, mark: bool, i: u8, own: bool) -> bool
+    ensures { λ r. ⌜ r ≡ cond (eqb k i) own mark ⌝ }
+{
+    if k == i { own } else { mark }
+}
+
+// Whether a node is marked once the mark of node i is set to `own`.
+pub(crate) fn some_with(marks: &[bool; 63], i: u8, own: bool, n: u8) -> bool
     requires { ⌜ n ≤ 63 ⌝ }
-    ensures { λ r. ⌜ r ≡ some (mark marks) n ⌝ }
+    ensures { λ r. ⌜ r ≡ some (upd (mark (now (marks .entry))) i own) n ⌝ }
 {
     let mut found = false;
     let mut k: u8 = 0;
     while k < n {
-        if marks[k as usize] {
+        if mark_with(k, marks[k as usize], i, own) {
             found = true;
         }
         k += 1;
@@ -22,30 +31,26 @@ pub(crate) fn some(marks: [bool; 63], n: u8) -> bool
     found
 }
 
-// Whether a node is marked once the mark of node i is set to `own`.
-pub(crate) fn some_with(marks: [bool; 63], i: u8, own: bool, n: u8) -> bool
-    requires { ⌜ i < 63 ⌝ }
+// Whether a node is marked: no node is 63.
+pub(crate) fn some(marks: &[bool; 63], n: u8) -> bool
     requires { ⌜ n ≤ 63 ⌝ }
-    ensures { λ r. ⌜ r ≡ some (upd (mark marks) i own) n ⌝ }
+    ensures { λ r. ⌜ r ≡ some (mark (now (marks .entry))) n ⌝ }
 {
-    let mut now = marks;
-    now[i as usize] = own;
-    some(now, n)
+    some_with(marks, 63, false, n)
 }
 
 // Whether a node other than i is marked.
-pub(crate) fn others(marks: [bool; 63], i: u8, n: u8) -> bool
-    requires { ⌜ i < 63 ⌝ }
+pub(crate) fn others(marks: &[bool; 63], i: u8, n: u8) -> bool
     requires { ⌜ n ≤ 63 ⌝ }
-    ensures { λ r. ⌜ r ≡ others (mark marks) i n ⌝ }
+    ensures { λ r. ⌜ r ≡ others (mark (now (marks .entry))) i n ⌝ }
 {
     some_with(marks, i, false, n)
 }
 
 // The lowest marked node, else 0.
-pub(crate) fn lowest(marks: [bool; 63], n: u8) -> u8
+pub(crate) fn lowest(marks: &[bool; 63], n: u8) -> u8
     requires { ⌜ n ≤ 63 ⌝ }
-    ensures { λ r. ⌜ r ≡ lowest (mark marks) n 0 ⌝ }
+    ensures { λ r. ⌜ r ≡ lowest (mark (now (marks .entry))) n 0 ⌝ }
 {
     let mut found: u8 = 0;
     let mut k = n;
@@ -58,23 +63,15 @@ pub(crate) fn lowest(marks: [bool; 63], n: u8) -> u8
     found
 }
 
-fn cleared(marks: [bool; 63], n: u8) -> [bool; 63]
+// Clears the marks of all nodes.
+pub(crate) fn wipe(marks: &mut [bool; 63], n: u8)
     requires { ⌜ n ≤ 63 ⌝ }
-    ensures { λ r. ⌜ mark r ≡ unmarked true n (mark marks) ⌝ }
+    ensures { λ _. ⌜ length (now (marks .exit)) ≡ length (now (marks .entry)) ⌝ }
+    ensures { λ _. ⌜ mark (now (marks .exit)) ≡ unmarked true n (mark (now (marks .entry))) ⌝ }
 {
-    let mut next = marks;
     let mut i: u8 = 0;
     while i < n {
-        next[i as usize] = false;
+        marks[i as usize] = false;
         i += 1;
     }
-    next
-}
-
-// The marks, with those of all nodes cleared if it is asked.
-pub(crate) fn clear(marks: [bool; 63], asked: bool, n: u8) -> [bool; 63]
-    requires { ⌜ (asked ≡ true → n ≤ 63) ⌝ }
-    ensures { λ r. ⌜ mark r ≡ unmarked asked n (mark marks) ⌝ }
-{
-    if asked { cleared(marks, n) } else { marks }
 }

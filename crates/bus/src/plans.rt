@@ -61,7 +61,7 @@ pub(crate) fn quietly(phase: Phase, c: Cell) -> Plan
     does(Report::Silent, phase, c, Clears::Nothing)
 }
 
-pub(crate) fn clears_misled(clears: Clears) -> bool
+pub fn clears_misled(clears: Clears) -> bool
     ensures { λ r. ⌜ r ≡ clearsMisled clears ⌝ }
 {
     match clears {
@@ -71,7 +71,7 @@ pub(crate) fn clears_misled(clears: Clears) -> bool
     }
 }
 
-pub(crate) fn clears_won(clears: Clears) -> bool
+pub fn clears_won(clears: Clears) -> bool
     ensures { λ r. ⌜ r ≡ clearsWon clears ⌝ }
 {
     match clears {

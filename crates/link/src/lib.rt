@@ -1,5 +1,6 @@
 // One node's link layer: what it does with a signal, what it puts out when it is clocked, and what arrives of a signal on its way to it.
 ghost use mathlib.Core.Path.{_≡_};
+ghost use Rattle.charts.specs.declared.Signal.the-variants as S;
 ghost use Rattle.charts.specs.Reception.{hears, tells, goes, toldOf, broadOf};
 ghost use Rattle.charts.specs.Outputs.{output, puts, sends, acks};
 ghost use Rattle.charts.specs.Arrivals.{arrives, passed, lost, changed};
@@ -136,6 +137,39 @@ pub fn receive(me: u8, mode: Mode, s: Signal) -> Heard
             3 => goes(Mode::Rest),
             _ => goes(Mode::Wait),
         },
+        Mode::Owed => goes(mode),
+        Mode::Sending(_) => goes(mode),
+        Mode::Told => goes(mode),
+        Mode::Answering => goes(mode),
+        Mode::Acking {
+            step: _,
+            ack: _,
+            hold: _,
+        } => goes(mode),
+        Mode::Holding => goes(mode),
+        Mode::Spurious => goes(mode),
+    }
+}
+
+// What node `me` in a mode does with a Gap: the same as `receive`, for the one signal that the bus itself gives. (Called from one place alone,
+// `receive` is compiled into the step and its modes are not copied; a call from the gap action as well would cost a third more time.)
+pub fn receive_gap(me: u8, mode: Mode) -> Heard
+    ensures { λ r. ⌜ r ≡ hears me mode S.Gap ⌝ }
+{
+    match mode {
+        Mode::Rest => goes(Mode::Rest),
+        Mode::AwaitAck => tells(Mode::Rest, Report::Miss(me)),
+        Mode::AckBody => tells(Mode::Rest, Report::Miss(me)),
+        Mode::AckEnd(_) => tells(Mode::Rest, Report::Miss(me)),
+        Mode::Opened => goes(Mode::Rest),
+        Mode::Addressed => goes(Mode::Rest),
+        Mode::HeadOwn => goes(Mode::Owed),
+        Mode::HeadAll => goes(Mode::Rest),
+        Mode::BodyOwn(_) => goes(Mode::Owed),
+        Mode::BodyAll(_) => goes(Mode::Rest),
+        Mode::TailOwn(_, _) => goes(Mode::Owed),
+        Mode::TailAll(_, _) => goes(Mode::Rest),
+        Mode::Wait => goes(Mode::Rest),
         Mode::Owed => goes(mode),
         Mode::Sending(_) => goes(mode),
         Mode::Told => goes(mode),

@@ -65,12 +65,12 @@ pub(crate) fn play_actions(
     while k < last {
         let from = 14 + 16 * k;
         let a = record::read_action(&piece[from..]);
-        let aimed = bus::aim(n, phase, pending, a);
+        let aimed = bus::aim(n, phase, &pending, a);
         let d = aimed.decoded;
         let i = aimed.node as usize;
         let node = nodes[i];
         let c = bus::cells::cell_of(node, won[i], pending[i], holder[i], misled[i]);
-        let plan = bus::plan(n, phase, aimed.node, c, won, pending, holder, d);
+        let plan = bus::plan(n, phase, aimed.node, c, &won, &pending, &holder, d);
         let next = plan.cell;
         nodes[i] = bus::cells::node_of(next);
         won[i] = next.won;
@@ -78,8 +78,8 @@ pub(crate) fn play_actions(
         holder[i] = next.holder;
         misled[i] = next.misled;
         let clears = plan.clears;
-        won = bus::clear_won(won, clears, n);
-        misled = bus::clear_misled(misled, clears, n);
+        bus::clear(&mut won, bus::plans::clears_won(clears), n);
+        bus::clear(&mut misled, bus::plans::clears_misled(clears), n);
         phase = plan.phase;
         let index = first + k as u64;
         if plan.number != 0 {

@@ -2,7 +2,7 @@
 use Prim.Native.Nat.{ℕ, zero, suc, _+_, _*_, _/_, _%_, _^_, _<_, _≤_}
 use mathlib.Core.Path.{_≡_, refl, sym, ap, _∙_}
 use mathlib.Core.Bool.{Bool, true, false, cond}
-use mathlib.Core.List.{List, [], _∷_, _++_}
+use mathlib.Core.List.{List, [], _∷_, _++_, append-assoc}
 use native.Mathlib.Omega.{arith}
 use lib.ListN.{length, length-append}
 use lib.Dec.{ltb}
@@ -29,6 +29,20 @@ pub decimal-big : (n : ℕ) → 10 ≤ n → decimal n ≡ decimal (n / 10) ++ d
 unfolding decimal
 decimal-big n h =
     rw (le-ltb n 10 h) (ap (λ (l : List ℕ). l ++ digit (n % 10)) (enough n (suc (n / 10)) (n / 10) (omega arith) (omega arith)))
+
+-- two digits apart
+pub decimal-pair : (n : ℕ) → 10 ≤ n → n < 100 → decimal n ≡ digit (n / 10) ++ digit (n % 10)
+decimal-pair n h g = rw (decimal-big n h, decimal-small (n / 10) (omega arith))
+
+pub decimal-hundreds : (n : ℕ) → 100 ≤ n → decimal n ≡ decimal (n / 100) ++ (digit (n % 100 / 10) ++ digit (n % 100 % 10))
+decimal-hundreds n h =
+    let a : n / 10 / 10 ≡ n / 100 = omega arith in
+    let b : n / 10 % 10 ≡ n % 100 / 10 = omega arith in
+    let c : n % 10 ≡ n % 100 % 10 = omega arith in
+    rw (decimal-big n (omega arith), decimal-big (n / 10) (omega arith), a, b, c) (append-assoc (decimal (n / 100)) (digit (n % 100 / 10)) (digit (n % 100 % 10)))
+
+pub hundreds-longer : (n : ℕ) → 100 ≤ n → length (decimal n) ≡ length (decimal (n / 100)) + 2
+hundreds-longer n h = ap length (decimal-hundreds n h) ∙ length-append (decimal (n / 100)) (digit (n % 100 / 10) ++ digit (n % 100 % 10))
 
 -- a number below 10 ^ k has at most k digits, k from 1 on
 short-by : (k n : ℕ) (b : Bool) → ltb n 10 ≡ b → (10 ≤ n → length (decimal (n / 10)) ≤ k) → length (decimal n) ≤ suc k

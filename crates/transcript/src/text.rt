@@ -1,9 +1,9 @@
 // Words, figures and reports put into a buffer from a place on. Each function answers the place after what it put.
 ghost use mathlib.Core.Path.{_≡_};
 ghost use mathlib.Core.List.{[], _∷_, _++_};
-ghost use Prim.Native.Nat.{_+_, _≤_, _<_};
+ghost use Prim.Native.Nat.{_+_, _/_, _%_, _≤_, _<_};
 ghost use lib.ListN.{length};
-ghost use Rattle.transcript.specs.Text.{decimal};
+ghost use Rattle.transcript.specs.Text.{digit, decimal};
 ghost use Rattle.transcript.specs.Lines.{line, said};
 ghost use Rattle.transcript.specs.Room.{Puts};
 use charts::Report;
@@ -28,15 +28,37 @@ pub(crate) fn put_word(buf: &mut [u8], at: usize, w: &[u8]) -> usize
     at + i
 }
 
-fn put_decimal(buf: &mut [u8], at: usize, x: u64) -> usize
+// The two digits of a number below 100, with a 0 before a single one.
+fn put_pair(buf: &mut [u8], at: usize, x: u8) -> usize
+    requires { ⌜ x < 100 ⌝ }
+    requires { ⌜ at + 2 ≤ length (now buf) ⌝ }
+    ensures { λ r. ⌜ Puts (now (buf .entry)) at (digit (x / 10) ++ digit (x % 10)) r (now (buf .exit)) ⌝ }
+{
+    let a = put_byte(buf, at, 48 + x / 10);
+    put_byte(buf, a, 48 + x % 10)
+}
+
+// A number below 100: most figures are, and this is quicker than a call for each digit.
+fn put_small(buf: &mut [u8], at: usize, x: u8) -> usize
+    requires { ⌜ x < 100 ⌝ }
     requires { ⌜ at + length (decimal x) ≤ length (now buf) ⌝ }
     ensures { λ r. ⌜ Puts (now (buf .entry)) at (decimal x) r (now (buf .exit)) ⌝ }
 {
     if x < 10 {
-        return put_byte(buf, at, 48 + x as u8);
+        return put_byte(buf, at, 48 + x);
     }
-    let last = put_decimal(buf, at, x / 10);
-    put_byte(buf, last, 48 + (x % 10) as u8)
+    put_pair(buf, at, x)
+}
+
+fn put_decimal(buf: &mut [u8], at: usize, x: u64) -> usize
+    requires { ⌜ at + length (decimal x) ≤ length (now buf) ⌝ }
+    ensures { λ r. ⌜ Puts (now (buf .entry)) at (decimal x) r (now (buf .exit)) ⌝ }
+{
+    if x < 100 {
+        return put_small(buf, at, x as u8);
+    }
+    let last = put_decimal(buf, at, x / 100);
+    put_pair(buf, last, (x % 100) as u8)
 }
 
 pub(crate) fn put_u8(buf: &mut [u8], at: usize, x: u8) -> usize
@@ -44,6 +66,9 @@ pub(crate) fn put_u8(buf: &mut [u8], at: usize, x: u8) -> usize
     ensures { λ r. ⌜ r ≤ at + 3 ⌝ }
     ensures { λ r. ⌜ Puts (now (buf .entry)) at (decimal x) r (now (buf .exit)) ⌝ }
 {
+    if x < 100 {
+        return put_small(buf, at, x);
+    }
     put_decimal(buf, at, x as u64)
 }
 

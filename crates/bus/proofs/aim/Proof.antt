@@ -15,7 +15,7 @@ aim-requires c κs = rw (c .glance .ensures) (ready-glance _ _ _ _)
 returns : tie.Need-returns
 returns c =
     let a = c .before .before .args in
-    (c .before .glance .ensures, (c .aim .ensures .0 ∙ ap (aimed (a .n) (a .phase) (mark (a .pending))) (c .before .glance .ensures), c .aim .ensures .1))
+    (c .before .glance .ensures, (c .aim .ensures .0 ∙ ap (aimed (a .n) (a .phase) (mark (a .pending .now))) (c .before .glance .ensures), c .aim .ensures .1))
 
 pub aim-spec : {M : Type 1} → statement M
 aim-spec = tie.close (tie.spec glance-requires aim-requires returns)

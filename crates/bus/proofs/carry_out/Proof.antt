@@ -1,16 +1,25 @@
-use Rattle.bus.proofs.InPlace.{planned-by}
-use Rattle.bus.proofs.ReadLaws.{clearing-fits}
-use Rattle.bus.specs.Marks.{unmarked, clearsMisled, clearsWon}
-use Rattle.charts.specs.View.{mark, Sized}
-use lib.ListN.{set}
-use mathlib.Core.Path.{refl, sym, ap, _∙_}
-use Rattle.bus.proofs.ViewLaws.{length-mapped, stored, resultOf, carried}
+use Rattle.charts.specs.View.{Sized}
+use Rattle.bus.proofs.ViewLaws.{length-mapped}
+use Rattle.bus.proofs.InPlace.{carries}
 use borrow.Author.Needs.{needs}
 use Rattle.bus.proofs.carry_out.Statement.{statement}
 use Rattle.bus.proofs.carry_out.Tie as tie
+use Rattle.bus.proofs.carry_out.Lts as lts
+use Rattle.bus.proofs.carry_out.Reads as reads
+use Rattle.bus.proofs.decide.aim.Reads as aim-reads
+use Rattle.bus.proofs.cells.cell_of.Reads as cell-of-reads
+use Rattle.bus.proofs.decide.decide.Reads as decide-reads
+use Rattle.bus.proofs.cells.node_of.Reads as node-of-reads
+use Rattle.bus.proofs.plans.clears_misled.Reads as clears-misled-reads
+use Rattle.bus.proofs.clear.Reads as clear-reads
+use Rattle.bus.proofs.plans.clears_won.Reads as clears-won-reads
+
+-- what owning the record tells of its arrays; stated apart, where little else is known, since the search looks through all of it
+sized : (c : lts.Start (aim-reads.Asked, aim-reads.Learnt, cell-of-reads.Asked, cell-of-reads.Learnt, decide-reads.Asked, decide-reads.Learnt, node-of-reads.Asked, node-of-reads.Learnt, clears-misled-reads.Asked, clears-misled-reads.Learnt, clear-reads.Asked, clear-reads.Learnt, clears-won-reads.Asked, clears-won-reads.Learnt) reads.Pre reads.Post) → Sized (c .args .b)
+sized c = record { nodes-size = search (needs, length-mapped); won-size = search needs; pending-size = search needs; holder-size = search (needs, c .good .0 .1 .1 .1 .1); misled-size = search (needs, c .good .0 .1 .1 .1 .1) }
 
 aim-requires : tie.Need-aim-requires
-aim-requires c κs = c .before .before .before .before .before .pre
+aim-requires c κs = c .before .before .before .before .before .before .pre
 
 cast-at : tie.Need-cast-at
 cast-at c = search needs
@@ -64,24 +73,25 @@ clears-misled-requires : tie.Need-clears-misled-requires
 clears-misled-requires c κs = search needs
 
 clear-requires : tie.Need-clear-requires
-clear-requires c κs = let a = c .before .before .before .before .before .before .before .before .before .before .before .before .args in λ e. clearing-fits clearsMisled refl (a .b) (a .d) (c .before .before .before .before .before .before .aim .result) (c .before .before .before .before .cell-of .result) (c .before .before .before .decide .result) (c .before .before .before .before .before .before .before .before .before .before .before .before .pre) (planned-by (a .b) (a .d) (c .before .before .before .before .before .before .aim .result) (c .before .before .before .before .cell-of .result) (c .before .before .before .decide .result) (c .before .before .before .before .before .before .before .before .before .before .before .before .pre) (c .before .before .before .before .before .before .aim .ensures .1) (c .before .before .before .decide .ensures)) (sym (c .clears-misled .ensures) ∙ e)
+clear-requires c κs = search needs
 
 clears-won-requires : tie.Need-clears-won-requires
 clears-won-requires c κs = search needs
 
 clear-requires-2 : tie.Need-clear-requires-2
-clear-requires-2 c κs = let a = c .before .before .before .before .before .before .before .before .before .before .before .before .before .before .args in λ e. clearing-fits clearsWon refl (a .b) (a .d) (c .before .before .before .before .before .before .before .before .aim .result) (c .before .before .before .before .before .before .cell-of .result) (c .before .before .before .before .before .decide .result) (c .before .before .before .before .before .before .before .before .before .before .before .before .before .before .pre) (planned-by (a .b) (a .d) (c .before .before .before .before .before .before .before .before .aim .result) (c .before .before .before .before .before .before .cell-of .result) (c .before .before .before .before .before .decide .result) (c .before .before .before .before .before .before .before .before .before .before .before .before .before .before .pre) (c .before .before .before .before .before .before .before .before .aim .ensures .1) (c .before .before .before .before .before .decide .ensures)) (sym (c .clears-won .ensures) ∙ e)
+clear-requires-2 c κs = search needs
 
 returns : tie.Need-returns
 returns c =
-    let b = c .before .before .before .before .before .before .before .before .before .before .before .before .before .before .before .args .b in
-    let i = c .before .before .before .before .before .before .before .before .before .aim .result in
-    let p = c .before .before .before .before .before .before .decide .result in
-    let sized : Sized b = record { nodes-size = search (needs, c .before .before .before .before .before .before .before .before .before .before .before .before .before .before .before .good, length-mapped); won-size = search (needs, c .before .before .before .before .before .before .before .before .before .before .before .before .before .before .before .good); pending-size = search (needs, c .before .before .before .before .before .before .before .before .before .before .before .before .before .before .before .good); holder-size = search (needs, c .before .before .before .before .before .before .before .before .before .before .before .before .before .before .before .good .0 .1 .1 .1 .1); misled-size = search (needs, c .before .before .before .before .before .before .before .before .before .before .before .before .before .before .before .good .0 .1 .1 .1 .1) } in
-    ap (resultOf p) (stored b (p .phase) i (p .cell) (p .clears) (c .before .before .before .before .node-of .result) (c .clear2 .result) (c .before .before .clear .result) sized (c .before .before .before .before .before .before .before .before .before .aim .ensures .1) (c .before .before .before .before .node-of .ensures)
-    (c .clear2 .ensures ∙ ap (λ o. unmarked o (b .n) (mark (set (b .won) i (p .cell .won)))) (c .before .clears-won .ensures))
-    (c .before .before .clear .ensures ∙ ap (λ o. unmarked o (b .n) (mark (set (b .misled) i (p .cell .misled)))) (c .before .before .before .clears-misled .ensures)))
-    ∙ carried b (c .before .before .before .before .before .before .before .before .before .before .before .before .before .before .before .args .d) i (c .before .before .before .before .before .before .before .cell-of .result) p (c .before .before .before .before .before .before .before .before .before .aim .ensures .0) (c .before .before .before .before .before .before .before .cell-of .ensures) (planned-by b (c .before .before .before .before .before .before .before .before .before .before .before .before .before .before .before .args .d) i (c .before .before .before .before .before .before .before .cell-of .result) p (c .before .before .before .before .before .before .before .before .before .before .before .before .before .before .before .pre) (c .before .before .before .before .before .before .before .before .before .aim .ensures .1) (c .before .before .before .before .before .before .decide .ensures))
+    let b = c .before .before .before .before .before .before .before .before .before .before .before .before .before .before .before .before .before .before .before .before .before .args .b in
+    let aim = c .before .before .before .before .before .before .before .before .before .before .before .before .before .before .aim in
+    let cell = c .before .before .before .before .before .before .before .before .before .before .before .before .cell-of in
+    let plan = c .before .before .before .before .before .before .before .before .decide in
+    let node = c .before .before .before .before .before .before .node-of in
+    let asks-misled = c .before .before .before .before .clears-misled in
+    let asks-won = c .before .clears-won in
+    carries b (c .before .before .before .before .before .before .before .before .before .before .before .before .before .before .before .before .before .before .before .before .before .args .d) (aim .result) (cell .result) (plan .result) (sized (c .before .before .before .before .before .before .before .before .before .before .before .before .before .before .before .before .before .before .before .before .before)) (c .before .before .before .before .before .before .before .before .before .before .before .before .before .before .before .before .before .before .before .before .before .pre) (aim .ensures .1) (aim .ensures .0) (cell .ensures) (plan .ensures)
+    (node .result) (c .clear2 .last .0) (c .before .before .before .clear .last .0) (asks-won .result) (asks-misled .result) (node .ensures) (asks-won .ensures) (c .clear2 .ensures .1) (asks-misled .ensures) (c .before .before .before .clear .ensures .1)
 
 pub carry-out-spec : {M : Type 1} → statement M
 carry-out-spec =

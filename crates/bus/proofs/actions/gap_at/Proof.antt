@@ -3,8 +3,8 @@ use borrow.Author.Needs.{needs}
 use Rattle.bus.proofs.actions.gap_at.Statement.{statement}
 use Rattle.bus.proofs.actions.gap_at.Tie as tie
 
-receive-requires : tie.Need-receive-requires
-receive-requires c κs = search needs
+receive-gap-requires : tie.Need-receive-gap-requires
+receive-gap-requires c κs = search needs
 
 after-gap-requires : tie.Need-after-gap-requires
 after-gap-requires c κs = search needs
@@ -17,9 +17,9 @@ does-requires c κs = search needs
 
 returns : tie.Need-returns
 unfolding gap
-returns c = simp (c .before .before .before .receive .ensures, c .before .before .after-gap .ensures, c .before .set-mode .ensures, c .does .ensures)
+returns c = simp (c .before .before .before .receive-gap .ensures, c .before .before .after-gap .ensures, c .before .set-mode .ensures, c .does .ensures)
 
 pub gap-at-spec : {M : Type 1} → statement M
 gap-at-spec =
     tie.close
-    (tie.spec receive-requires after-gap-requires set-mode-requires does-requires returns)
+    (tie.spec receive-gap-requires after-gap-requires set-mode-requires does-requires returns)

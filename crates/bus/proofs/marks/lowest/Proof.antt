@@ -9,10 +9,10 @@ use Rattle.bus.proofs.marks.lowest.Statement.{statement}
 use Rattle.bus.proofs.marks.lowest.Tie as tie
 
 abbrev Inv-loop : tie.InvT-loop
-Inv-loop n marks found₀ k₀ found k = (k ≤ n) × (lowest (mark marks) n 0 ≡ lowest (mark marks) k found)
+Inv-loop marks n found₀ k₀ found k = (k ≤ n) × (lowest (mark marks) n 0 ≡ lowest (mark marks) k found)
 
 abbrev μ-loop : tie.MeasureT-loop
-μ-loop n marks found₀ k₀ found k = k
+μ-loop marks n found₀ k₀ found k = k
 
 loop-holds : tie.Need-loop-holds Inv-loop μ-loop
 loop-holds c = search needs
@@ -23,20 +23,20 @@ sub-k c = search needs
 cast-if1 : tie.Need-cast-if1 Inv-loop μ-loop
 cast-if1 c = search needs
 
-array-read-if1 : tie.Need-array-read-if1 Inv-loop μ-loop
-array-read-if1 c = search needs
+element-copy-out-if1 : tie.Need-element-copy-out-if1 Inv-loop μ-loop
+element-copy-out-if1 c = search needs
 
 loop-less : tie.Need-loop-less Inv-loop μ-loop
 loop-less c = search needs
 
 loop-again : tie.Need-loop-again Inv-loop μ-loop
-loop-again c = (search needs, rw (c .before .before .loop .inv .1, lowest-more _ _ _ (c .before .loop-test .taken), c .if1 .taken))
+loop-again c = (search needs, rw (c .before .before .before .loop .inv .1, lowest-more _ _ _ (c .before .before .loop-test .taken), c .if1 .taken))
 
 loop-less-2 : tie.Need-loop-less-2 Inv-loop μ-loop
 loop-less-2 c = search needs
 
 loop-again-2 : tie.Need-loop-again-2 Inv-loop μ-loop
-loop-again-2 c = (search needs, rw (c .before .before .loop .inv .1, lowest-more _ _ _ (c .before .loop-test .taken), c .if1 .left))
+loop-again-2 c = (search needs, rw (c .before .before .before .loop .inv .1, lowest-more _ _ _ (c .before .before .loop-test .taken), c .if1 .left))
 
 returns : tie.Need-returns Inv-loop μ-loop
 returns c = let e : c .before .loop .k ≡ 0 = omega arith in rw (c .before .loop .inv .1, e)
@@ -50,7 +50,7 @@ lowest-spec =
     loop-holds
     sub-k
     cast-if1
-    array-read-if1
+    element-copy-out-if1
     loop-less
     loop-again
     loop-less-2

@@ -1,17 +1,15 @@
 use borrow.Author.Needs.{needs}
-use Rattle.transcript.proofs.Puts.{and-then}
-use Rattle.transcript.proofs.Decimals.{decimal-small, decimal-big}
-use Prim.Native.Nat.{ℕ, _<_, _/_, _%_}
 use native.Mathlib.Omega.{arith}
-use mathlib.Core.Path.{ap, _∙_}
-use lib.ListN.{length, length-append}
-use Rattle.transcript.specs.Text.{digit, decimal}
+use Rattle.transcript.proofs.Puts.{and-then}
+use Rattle.transcript.proofs.Decimals.{decimal-hundreds, hundreds-longer}
+use Prim.Native.Nat.{ℕ, _<_}
 use borrow.Fn.Kinds.{In}
 use borrow.Fn.PlainCycle.{Measures, is, falls, and}
 use Rattle.transcript.proofs.text.put_decimal.Reads as put-decimal
 use Rattle.transcript.proofs.text.put_decimal.Kinds as put-decimal-kinds
 use Rattle.transcript.proofs.text.+put_decimal.Lts-put_decimal as put-decimal-lts
-use Rattle.transcript.proofs.text.put_byte.Reads as put-byte-reads
+use Rattle.transcript.proofs.text.put_pair.Reads as put-pair-reads
+use Rattle.transcript.proofs.text.put_small.Reads as put-small-reads
 use Rattle.transcript.proofs.text.+put_decimal.{statement}
 use Rattle.transcript.proofs.text.+put_decimal.Tie.{close}
 
@@ -26,123 +24,121 @@ abbrev put-decimal-below : ℕ → In 1 put-decimal-kinds.ps
 put-decimal-below t =
     and 1 put-decimal-kinds.ps (falls 1 put-decimal-kinds.ps _<_ μ-put-decimal t) put-decimal.Pre
 
-put-decimal-cast-put-byte : (t : ℕ) → put-decimal-lts.Need-cast-put-byte (
-  put-byte-reads.Asked,
-  put-byte-reads.Learnt,
+put-decimal-cast-put-small : (t : ℕ) → put-decimal-lts.Need-cast-put-small (
+  put-small-reads.Asked,
+  put-small-reads.Learnt,
   put-decimal-below t,
   put-decimal.Post,
+  put-pair-reads.Asked,
+  put-pair-reads.Learnt,
 ) (put-decimal-at t) put-decimal.Post
-put-decimal-cast-put-byte t c = search needs
+put-decimal-cast-put-small t c = search needs
 
-put-decimal-add-put-byte : (t : ℕ) → put-decimal-lts.Need-add-put-byte (
-  put-byte-reads.Asked,
-  put-byte-reads.Learnt,
+put-decimal-put-small-requires : (t : ℕ) → put-decimal-lts.Need-put-small-requires (
+  put-small-reads.Asked,
+  put-small-reads.Learnt,
   put-decimal-below t,
   put-decimal.Post,
+  put-pair-reads.Asked,
+  put-pair-reads.Learnt,
 ) (put-decimal-at t) put-decimal.Post
-put-decimal-add-put-byte t c = search needs
-
-put-decimal-put-byte-requires : (t : ℕ) → put-decimal-lts.Need-put-byte-requires (
-  put-byte-reads.Asked,
-  put-byte-reads.Learnt,
-  put-decimal-below t,
-  put-decimal.Post,
-) (put-decimal-at t) put-decimal.Post
-put-decimal-put-byte-requires t c κs =
-    let one = ap length (decimal-small (c .before .before .before .args .x) (c .before .if1 .taken)) in omega arith
+put-decimal-put-small-requires t c κs = (c .before .if1 .taken, c .before .before .before .pre .1)
 
 put-decimal-same-length : (t : ℕ) → put-decimal-lts.Need-same-length (
-  put-byte-reads.Asked,
-  put-byte-reads.Learnt,
+  put-small-reads.Asked,
+  put-small-reads.Learnt,
   put-decimal-below t,
   put-decimal.Post,
+  put-pair-reads.Asked,
+  put-pair-reads.Learnt,
 ) (put-decimal-at t) put-decimal.Post
 put-decimal-same-length t c = search needs
 
 put-decimal-returns : (t : ℕ) → put-decimal-lts.Need-returns (
-  put-byte-reads.Asked,
-  put-byte-reads.Learnt,
+  put-small-reads.Asked,
+  put-small-reads.Learnt,
   put-decimal-below t,
   put-decimal.Post,
+  put-pair-reads.Asked,
+  put-pair-reads.Learnt,
 ) (put-decimal-at t) put-decimal.Post
-put-decimal-returns t c =
-    let whole = decimal-small (c .before .before .before .before .before .before .args .x) (c .before .before .before .before .if1 .taken) in
-    rw whole (c .before .before .put-byte .ensures)
+put-decimal-returns t c = c .before .before .put-small .ensures
 
 put-decimal-put-decimal-requires : (t : ℕ) → put-decimal-lts.Need-put-decimal-requires (
-  put-byte-reads.Asked,
-  put-byte-reads.Learnt,
+  put-small-reads.Asked,
+  put-small-reads.Learnt,
   put-decimal-below t,
   put-decimal.Post,
+  put-pair-reads.Asked,
+  put-pair-reads.Learnt,
 ) (put-decimal-at t) put-decimal.Post
 put-decimal-put-decimal-requires t c κs =
     let x = c .before .before .before .args .x in
-    let more = ap length (decimal-big x (c .before .if1 .left)) ∙ length-append (decimal (x / 10)) (digit (x % 10)) in
+    let more = hundreds-longer x (c .before .if1 .left) in
     (omega arith, omega arith)
 
-put-decimal-cast-put-byte-2 : (t : ℕ) → put-decimal-lts.Need-cast-put-byte-2 (
-  put-byte-reads.Asked,
-  put-byte-reads.Learnt,
+put-decimal-cast-put-pair : (t : ℕ) → put-decimal-lts.Need-cast-put-pair (
+  put-small-reads.Asked,
+  put-small-reads.Learnt,
   put-decimal-below t,
   put-decimal.Post,
+  put-pair-reads.Asked,
+  put-pair-reads.Learnt,
 ) (put-decimal-at t) put-decimal.Post
-put-decimal-cast-put-byte-2 t c = search needs
+put-decimal-cast-put-pair t c = search needs
 
-put-decimal-add-put-byte-2 : (t : ℕ) → put-decimal-lts.Need-add-put-byte-2 (
-  put-byte-reads.Asked,
-  put-byte-reads.Learnt,
+put-decimal-put-pair-requires : (t : ℕ) → put-decimal-lts.Need-put-pair-requires (
+  put-small-reads.Asked,
+  put-small-reads.Learnt,
   put-decimal-below t,
   put-decimal.Post,
+  put-pair-reads.Asked,
+  put-pair-reads.Learnt,
 ) (put-decimal-at t) put-decimal.Post
-put-decimal-add-put-byte-2 t c = search needs
-
-put-decimal-put-byte-requires-2 : (t : ℕ) → put-decimal-lts.Need-put-byte-requires-2 (
-  put-byte-reads.Asked,
-  put-byte-reads.Learnt,
-  put-decimal-below t,
-  put-decimal.Post,
-) (put-decimal-at t) put-decimal.Post
-put-decimal-put-byte-requires-2 t c κs =
+put-decimal-put-pair-requires t c κs =
     let x = c .before .before .before .before .before .before .before .args .x in
-    let more = ap length (decimal-big x (c .before .before .before .before .before .if1 .left)) ∙ length-append (decimal (x / 10)) (digit (x % 10)) in
-    omega arith
+    let more = hundreds-longer x (c .before .before .before .before .before .if1 .left) in
+    (omega arith, omega arith)
 
 put-decimal-same-length-2 : (t : ℕ) → put-decimal-lts.Need-same-length-2 (
-  put-byte-reads.Asked,
-  put-byte-reads.Learnt,
+  put-small-reads.Asked,
+  put-small-reads.Learnt,
   put-decimal-below t,
   put-decimal.Post,
+  put-pair-reads.Asked,
+  put-pair-reads.Learnt,
 ) (put-decimal-at t) put-decimal.Post
 put-decimal-same-length-2 t c = search needs
 
 put-decimal-returns-2 : (t : ℕ) → put-decimal-lts.Need-returns-2 (
-  put-byte-reads.Asked,
-  put-byte-reads.Learnt,
+  put-small-reads.Asked,
+  put-small-reads.Learnt,
   put-decimal-below t,
   put-decimal.Post,
+  put-pair-reads.Asked,
+  put-pair-reads.Learnt,
 ) (put-decimal-at t) put-decimal.Post
 put-decimal-returns-2 t c =
-    let x = c .before .before .before .before .before .before .before .before .before .before .args .x in
-    rw (decimal-big x (c .before .before .before .before .before .before .before .before .if1 .left))
-    (and-then (c .before .before .before .before .before .before .put-decimal .ensures) (c .before .before .put-byte2 .ensures))
+    rw (decimal-hundreds (c .before .before .before .before .before .before .before .before .before .before .args .x) (c .before .before .before .before .before .before .before .before .if1 .left))
+    (and-then (c .before .before .before .before .before .before .put-decimal .ensures) (c .before .before .put-pair .ensures))
 
 pub +put-decimal-spec : {M : Type 1} → statement M
 +put-decimal-spec = close μ-put-decimal λ t. put-decimal-lts.spec (
-  put-byte-reads.Asked,
-  put-byte-reads.Learnt,
+  put-small-reads.Asked,
+  put-small-reads.Learnt,
   put-decimal-below t,
   put-decimal.Post,
+  put-pair-reads.Asked,
+  put-pair-reads.Learnt,
 )
     (put-decimal-at t)
     put-decimal.Post
-    (put-decimal-cast-put-byte t)
-    (put-decimal-add-put-byte t)
-    (put-decimal-put-byte-requires t)
+    (put-decimal-cast-put-small t)
+    (put-decimal-put-small-requires t)
     (put-decimal-same-length t)
     (put-decimal-returns t)
     (put-decimal-put-decimal-requires t)
-    (put-decimal-cast-put-byte-2 t)
-    (put-decimal-add-put-byte-2 t)
-    (put-decimal-put-byte-requires-2 t)
+    (put-decimal-cast-put-pair t)
+    (put-decimal-put-pair-requires t)
     (put-decimal-same-length-2 t)
     (put-decimal-returns-2 t)
