@@ -10,6 +10,7 @@ use Rattle.charts.specs.declared.Bus.{Bus}
 use Rattle.charts.specs.declared.Node.{Node}
 use Rattle.charts.specs.declared.Phase.{Phase}
 use Rattle.charts.specs.declared.Played.{Played}
+use Rattle.charts.specs.State.{State}
 use Rattle.charts.specs.View.{view, seen, mark, Sized}
 use Rattle.bus.specs.Advance.{glance, advanceOf}
 use Rattle.bus.specs.Plans.{tried}
@@ -21,7 +22,8 @@ use Rattle.record.proofs.Walk.{tail-part}
 use Rattle.transcript.specs.Lines.{lineOf, refusedLine}
 use Rattle.transcript.proofs.Rooms.{puts-line}
 use Rattle.player.specs.Printed.{actionsIn}
-use Rattle.player.specs.Feeding.{Part, partOf, turnOf}
+use Rattle.walk.specs.Feeding.{Part}
+use Rattle.player.specs.Feeding.{partOf, turnOf}
 use Rattle.player.proofs.Loop.{left, left-all, left-none, left-more, Same, at-start, go-on, stop, ends}
 use Rattle.player.proofs.block.play_actions.Statement.{statement}
 use Rattle.player.proofs.block.play_actions.Tie as tie
@@ -93,7 +95,7 @@ is-step c =
     ∙ advances b act
 
 -- the whole is this action's turn and what is played later
-abbrev later : Played-here → Part
+abbrev later : Played-here → Part State
 later c = partOf (left (c .before .before .before .before .before .before .before .before .before .before .before .before .before .before .before .before .before .before .before .before .before .before .before .before .before .before .before .before .args .count) (c .before .before .before .before .before .before .before .before .before .before .before .before .before .before .before .before .before .before .before .before .before .loop .k + 1) (c .before .before .before .before .before .before .before .before .before .before .before .before .before .before .before .before .before .before .before .before .before .before .before .before .before .before .before .before .args .piece .now)) (view (result c .bus)) (suc (c .before .before .before .before .before .before .before .before .before .before .before .before .before .before .before .before .before .before .before .before .before .before .before .before .before .before .before .before .args .first + c .before .before .before .before .before .before .before .before .before .before .before .before .before .before .before .before .before .before .before .before .before .loop .k))
 
 turn : (c : Played-here) → Same (c .before .before .before .before .before .before .before .before .before .before .before .before .before .before .before .before .before .before .before .before .before .before .before .before .before .before .before .before .args .out .now) (c .before .before .before .before .before .before .before .before .before .before .before .before .before .before .before .before .before .before .before .before .before .before .before .before .before .before .before .before .args .at) (partOf (actionsIn (c .before .before .before .before .before .before .before .before .before .before .before .before .before .before .before .before .before .before .before .before .before .before .before .before .before .before .before .before .args .count) (c .before .before .before .before .before .before .before .before .before .before .before .before .before .before .before .before .before .before .before .before .before .before .before .before .before .before .before .before .args .piece .now)) (view (c .before .before .before .before .before .before .before .before .before .before .before .before .before .before .before .before .before .before .before .before .before .before .before .before .before .before .before .before .args .b)) (c .before .before .before .before .before .before .before .before .before .before .before .before .before .before .before .before .before .before .before .before .before .before .before .before .before .before .before .before .args .first)) (c .before .before .before .before .before .before .before .before .before .before .before .before .before .before .before .before .before .before .before .before .before .loop .out) (c .before .before .before .before .before .before .before .before .before .before .before .before .before .before .before .before .before .before .before .before .before .loop .end) (turnOf (c .before .before .before .before .before .before .before .before .before .before .before .before .before .before .before .before .before .before .before .before .before .before .before .before .before .before .before .before .args .first + c .before .before .before .before .before .before .before .before .before .before .before .before .before .before .before .before .before .before .before .before .before .loop .k) (c .before .before .before .before .before .before .before .before .before .before .before .before .before .before .before .before .before .before .read-action .result .kind) (seen (result c)) (later c))
