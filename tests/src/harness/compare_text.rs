@@ -10,7 +10,7 @@ use std::path::Path;
 use super::child::{self, Input, Ran};
 use super::random::Random;
 use super::tally;
-use super::texts::{TextCase, TextWay};
+use super::texts::{TextCase, TextWay, NAMES};
 use super::ways::{self, Way};
 use super::workers::{self, Merge};
 use crate::notation::{self, Complaint, Fault, LONGEST_LINE};
@@ -44,22 +44,10 @@ const FAULTS: [Fault; 14] = [
     Fault::Refused(6),
 ];
 
-const WORDS: [&str; 14] = [
-    "nodes",
-    "request",
-    "arbitrate",
-    "respond",
-    "clock",
-    "pass",
-    "lose",
-    "change",
-    "grant",
-    "gap",
-    "reset",
-    "all",
-    "hold",
-    "*",
-];
+/// The words that begin a line, then the others.
+fn known_words() -> impl Iterator<Item = &'static str> {
+    NAMES.into_iter().chain(["all", "hold", "*"])
+}
 
 const STYLES: [&str; 16] = [
     "a comment",
@@ -95,7 +83,7 @@ impl Merge for Tally {
 
 fn aims() -> Vec<String> {
     let faults = FAULTS.iter().map(|fault| format!("fault: {fault}"));
-    let words = WORDS.iter().map(|word| format!("word: {word}"));
+    let words = known_words().map(|word| format!("word: {word}"));
     let styles = STYLES.iter().map(|style| format!("text: {style}"));
     let listed = LISTED.iter().map(|number| format!("listing refused by {number}"));
     let whole = ["listing of a whole file, composed again".to_string()];
@@ -278,7 +266,7 @@ fn enter(text: &[u8], file: &[u8], ended: Result<(), Complaint>, tally: &mut Tal
         for word in notation::words(line) {
             style(word.starts_with(b"0x"), 5);
             style(word.starts_with(b"0x") && word.iter().any(u8::is_ascii_uppercase), 6);
-            found.extend(WORDS.iter().filter(|known| known.as_bytes() == word).copied());
+            found.extend(known_words().filter(|known| known.as_bytes() == word));
         }
     }
     style(ended.is_err() && actions > 0 && actions.is_multiple_of(31), 12);
