@@ -17,3 +17,4 @@ pub mod texts;
 pub mod walk;
 pub mod watch;
 pub mod ways;
+pub mod workers;

@@ -6,12 +6,8 @@ use bench_model::bus::{Bus, Refusal};
 use bench_model::runfile::{self, BLOCK};
 use common::*;
 
-#[test]
-fn a_broadcast() {
-    let mut run = vec![request(0, 63, 1, 2), arbitrate(0)];
-    run.extend(packet_of_two());
-    run.extend([gap(), gap()]);
-    let text = "\
+/// Case A, as document 01 prints it.
+const TEXT_A: &str = "\
 nodes 2
 0 1 -
 1 2 0 won
@@ -31,25 +27,11 @@ nodes 2
 15 9 -
 done 16
 ";
-    assert_eq!(printed(2, &run), text);
-}
 
-#[test]
-fn b_acknowledged() {
-    let text = "\
-nodes 2
-0 1 -
-1 2 0 won
-2 4 -
-3 5 -
-4 4 -
-5 5 -
-6 4 -
-7 5 -
-8 4 -
-9 5 -
-10 4 -
-11 5 -
+/// "as A but 0 to 1 (5, 6): index 13 reports `1 good 5 6`; grant, respond 1 with 1 and hold 0, three
+/// times clock 1 and pass: index 21 reports `0 ack 1`; two gaps, `done 24`"
+fn text_b() -> String {
+    let end = "\
 12 4 -
 13 5 1 good 5 6
 14 8 -
@@ -64,106 +46,74 @@ nodes 2
 23 9 -
 done 24
 ";
-    assert_eq!(printed(2, &case_b()), text);
+    with_end(TEXT_A, end)
 }
 
+/// The place of the line with the same index as this one; there must be one.
+fn place_of(line: &str, lines: &[&str]) -> usize {
+    fn index(line: &str) -> Option<&str> {
+        line.split(' ').next()
+    }
+    let place = lines.iter().position(|old| index(old) == index(line));
+    place.unwrap_or_else(|| panic!("no line with the index of {line:?}"))
+}
+
+/// The text with these lines, each in place of the one with its index.
+fn with_lines(text: &str, changed: &[&str]) -> String {
+    let mut lines: Vec<&str> = text.lines().collect();
+    for line in changed {
+        let place = place_of(line, &lines);
+        lines[place] = line;
+    }
+    lines.join("\n") + "\n"
+}
+
+/// The text with another end, in place of the line with the end's first index and all after it.
+fn with_end(text: &str, end: &str) -> String {
+    let lines: Vec<&str> = text.lines().collect();
+    lines[..place_of(end, &lines)].join("\n") + "\n" + end
+}
+
+#[test]
+fn a_broadcast() {
+    let mut run = vec![request(0, 63, 1, 2), arbitrate(0)];
+    run.extend(packet_of_two());
+    run.extend([gap(), gap()]);
+    assert_eq!(printed(2, &run), TEXT_A);
+}
+
+#[test]
+fn b_acknowledged() {
+    assert_eq!(printed(2, &case_b()), text_b());
+}
+
+/// "B with change at 11: 13 reports `1 dcrc 5`"
 #[test]
 fn c_bad_data() {
     let mut run = case_b();
     run[11] = change(0);
-    let text = "\
-nodes 2
-0 1 -
-1 2 0 won
-2 4 -
-3 5 -
-4 4 -
-5 5 -
-6 4 -
-7 5 -
-8 4 -
-9 5 -
-10 4 -
-11 7 -
-12 4 -
-13 5 1 dcrc 5
-14 8 -
-15 3 -
-16 4 -
-17 5 -
-18 4 -
-19 5 -
-20 4 -
-21 5 0 ack 1
-22 9 -
-23 9 -
-done 24
-";
+    let text = with_lines(&text_b(), &["11 7 -", "13 5 1 dcrc 5"]);
     assert_eq!(printed(2, &run), text);
 }
 
+/// "B with lose at 9, nothing reported at 13; grant, clock 1, gap: index 16 reports `0 miss`"
 #[test]
 fn d_lost_header() {
     let mut run = case_b();
     run[9] = lose();
     run.truncate(14);
     run.extend([grant(), clock(1), gap()]);
-    let text = "\
-nodes 2
-0 1 -
-1 2 0 won
-2 4 -
-3 5 -
-4 4 -
-5 5 -
-6 4 -
-7 5 -
-8 4 -
-9 6 -
-10 4 -
-11 5 -
-12 4 -
-13 5 -
-14 8 -
-15 4 -
-16 9 0 miss
-done 17
-";
+    let text = with_lines(&text_b(), &["9 6 -", "13 5 -"]);
+    let text = with_end(&text, "14 8 -\n15 4 -\n16 9 0 miss\ndone 17\n");
     assert_eq!(printed(2, &run), text);
 }
 
+/// "B with lose at 19: 21 reports `0 miss`"
 #[test]
 fn e_lost_acknowledgement() {
     let mut run = case_b();
     run[19] = lose();
-    let text = "\
-nodes 2
-0 1 -
-1 2 0 won
-2 4 -
-3 5 -
-4 4 -
-5 5 -
-6 4 -
-7 5 -
-8 4 -
-9 5 -
-10 4 -
-11 5 -
-12 4 -
-13 5 1 good 5 6
-14 8 -
-15 3 -
-16 4 -
-17 5 -
-18 4 -
-19 6 -
-20 4 -
-21 5 0 miss
-22 9 -
-23 9 -
-done 24
-";
+    let text = with_lines(&text_b(), &["19 6 -", "21 5 0 miss"]);
     assert_eq!(printed(2, &run), text);
 }
 

@@ -3,16 +3,14 @@
 
 use std::fs;
 use std::path::Path;
-use std::sync::atomic::{AtomicBool, AtomicU64, Ordering};
-use std::sync::Mutex;
-use std::thread;
 
-use super::child::{self, Input, Scratch};
+use super::child::{self, Input};
 use super::forward::{self, Choice};
 use super::random::Random;
 use super::tally::Tally;
 use super::watch::Watch;
 use super::ways::{Case, End, Way};
+use super::workers;
 use crate::bus::{Bus, Phase, Record};
 use crate::player;
 use crate::transcript;
@@ -25,42 +23,10 @@ pub struct Options<'a> {
     pub only: Option<u64>,
 }
 
-const WORKERS: usize = 2;
-
 pub fn compare(options: &Options) -> Result<String, String> {
-    let scratch = Scratch::new().map_err(|error| format!("no scratch directory: {error}"))?;
-    let (first, end) = match options.only {
-        Some(index) => (index, index + 1),
-        None => (0, options.files),
-    };
-    let next = AtomicU64::new(first);
-    let stop = AtomicBool::new(false);
-    let total = Mutex::new(Tally::new());
-    let failure: Mutex<Option<String>> = Mutex::new(None);
-    thread::scope(|scope| {
-        for worker in 0..WORKERS {
-            let path = scratch.file(&format!("worker-{worker}.run"));
-            let (next, stop, total, failure) = (&next, &stop, &total, &failure);
-            scope.spawn(move || {
-                let mut tally = Tally::new();
-                loop {
-                    let index = next.fetch_add(1, Ordering::Relaxed);
-                    if index >= end || stop.load(Ordering::Relaxed) {
-                        break;
-                    }
-                    if let Err(why) = one_file(options, index, &path, &mut tally) {
-                        stop.store(true, Ordering::Relaxed);
-                        failure.lock().expect("no worker panics").get_or_insert(why);
-                    }
-                }
-                total.lock().expect("no worker panics").merge(&tally);
-            });
-        }
-    });
-    if let Some(why) = failure.into_inner().expect("no worker panics") {
-        return Err(why);
-    }
-    let total = total.into_inner().expect("no worker panics");
+    let items = workers::items(options.files, options.only);
+    let one = |index, path: &Path, tally: &mut Tally| one_file(options, index, path, tally);
+    let total = workers::each(items, one)?;
     let text = total.print();
     let missing = total.missing();
     if options.only.is_some() {

@@ -3,18 +3,16 @@
 //! byte.
 
 use std::collections::BTreeMap;
+use std::fs;
 use std::io::{self, Write};
 use std::path::Path;
-use std::sync::atomic::{AtomicBool, AtomicU64, Ordering};
-use std::sync::Mutex;
-use std::thread;
-use std::{fs, mem};
 
-use super::child::{self, Input, Ran, Scratch};
+use super::child::{self, Input, Ran};
 use super::random::Random;
 use super::tally;
-use super::texts::{TextCase, TextWay};
+use super::texts::{TextCase, TextWay, NAMES};
 use super::ways::{self, Way};
+use super::workers::{self, Merge};
 use crate::notation::{self, Complaint, Fault, LONGEST_LINE};
 use crate::runfile::BLOCK;
 
@@ -27,8 +25,6 @@ pub struct Options<'a> {
     /// Only the text with this number, and the run file that goes with it.
     pub only: Option<u64>,
 }
-
-const WORKERS: usize = 2;
 
 /// What the texts and files must hit: faults, words, ways to write, numbers that end a listing.
 const FAULTS: [Fault; 14] = [
@@ -48,22 +44,10 @@ const FAULTS: [Fault; 14] = [
     Fault::Refused(6),
 ];
 
-const WORDS: [&str; 14] = [
-    "nodes",
-    "request",
-    "arbitrate",
-    "respond",
-    "clock",
-    "pass",
-    "lose",
-    "change",
-    "grant",
-    "gap",
-    "reset",
-    "all",
-    "hold",
-    "*",
-];
+/// The words that begin a line, then the others.
+fn known_words() -> impl Iterator<Item = &'static str> {
+    NAMES.into_iter().chain(["all", "hold", "*"])
+}
 
 const STYLES: [&str; 16] = [
     "a comment",
@@ -89,9 +73,17 @@ const LISTED: [u8; 10] = [1, 2, 3, 4, 5, 6, 8, 9, 10, 11];
 
 type Tally = BTreeMap<String, u64>;
 
+impl Merge for Tally {
+    fn merge(&mut self, other: Tally) {
+        for (name, count) in other {
+            *self.entry(name).or_default() += count;
+        }
+    }
+}
+
 fn aims() -> Vec<String> {
     let faults = FAULTS.iter().map(|fault| format!("fault: {fault}"));
-    let words = WORDS.iter().map(|word| format!("word: {word}"));
+    let words = known_words().map(|word| format!("word: {word}"));
     let styles = STYLES.iter().map(|style| format!("text: {style}"));
     let listed = LISTED.iter().map(|number| format!("listing refused by {number}"));
     let whole = ["listing of a whole file, composed again".to_string()];
@@ -99,56 +91,23 @@ fn aims() -> Vec<String> {
 }
 
 pub fn compare_text(options: &Options) -> Result<String, String> {
-    let scratch = Scratch::new().map_err(|error| format!("no scratch directory: {error}"))?;
-    let (first, end) = match options.only {
-        Some(index) => (index, index + 1),
-        None => (0, options.files),
-    };
-    let next = AtomicU64::new(first);
-    let stop = AtomicBool::new(false);
-    let total: Mutex<Tally> = Mutex::new(Tally::new());
-    let failure: Mutex<Option<String>> = Mutex::new(None);
-    thread::scope(|scope| {
-        for worker in 0..WORKERS {
-            let path = scratch.file(&format!("worker-{worker}"));
-            let (next, stop, total, failure) = (&next, &stop, &total, &failure);
-            scope.spawn(move || {
-                let mut tally = Tally::new();
-                loop {
-                    let index = next.fetch_add(1, Ordering::Relaxed);
-                    if index >= end || stop.load(Ordering::Relaxed) {
-                        break;
-                    }
-                    let compared = one_text(options, index, &path, &mut tally).and_then(|()| {
-                        match index % 3 {
-                            0 => one_file(options, index, &path, &mut tally),
-                            _ => Ok(()),
-                        }
-                    });
-                    if let Err(why) = compared {
-                        stop.store(true, Ordering::Relaxed);
-                        failure.lock().expect("no worker panics").get_or_insert(why);
-                    }
-                }
-                let mut total = total.lock().expect("no worker panics");
-                for (name, count) in mem::take(&mut tally) {
-                    *total.entry(name).or_default() += count;
-                }
-            });
+    let items = workers::items(options.files, options.only);
+    let total = workers::each(items, |index, path, tally: &mut Tally| {
+        one_text(options, index, path, tally)?;
+        match index % 3 {
+            0 => one_file(options, index, path, tally),
+            _ => Ok(()),
         }
-    });
-    if let Some(why) = failure.into_inner().expect("no worker panics") {
-        return Err(why);
-    }
+    })?;
     if options.only.is_some() {
         return Ok("equal\n".into());
     }
     without_end(options.compose)?;
-    let total = total.into_inner().expect("no worker panics");
     let count = |name: &String| total.get(name).copied().unwrap_or(0);
     let aims = aims();
     let lines: String = aims.iter().map(|name| format!("  {:>7}  {name}\n", count(name))).collect();
-    let text = format!("{} texts, {} run files; hit:\n{lines}", end, end.div_ceil(3));
+    let (texts, files) = (options.files, options.files.div_ceil(3));
+    let text = format!("{texts} texts, {files} run files; hit:\n{lines}");
     let missing: Vec<_> = aims.iter().filter(|name| count(name) == 0).cloned().collect();
     match missing.is_empty() {
         true => Ok(text + "equal throughout; every fault and every word was hit\n"),
@@ -307,7 +266,7 @@ fn enter(text: &[u8], file: &[u8], ended: Result<(), Complaint>, tally: &mut Tal
         for word in notation::words(line) {
             style(word.starts_with(b"0x"), 5);
             style(word.starts_with(b"0x") && word.iter().any(u8::is_ascii_uppercase), 6);
-            found.extend(WORDS.iter().filter(|known| known.as_bytes() == word).copied());
+            found.extend(known_words().filter(|known| known.as_bytes() == word));
         }
     }
     style(ended.is_err() && actions > 0 && actions.is_multiple_of(31), 12);

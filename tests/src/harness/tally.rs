@@ -4,6 +4,7 @@ use std::collections::BTreeMap;
 use std::fmt::Write;
 
 use super::ways::Way;
+use super::workers::Merge;
 use crate::bus::{Action, Bus, Check, Mode, Phase, Record, Report, Reported, Signal, ALL_NODES};
 
 /// Refusals that a file can meet: all but 12.
@@ -257,21 +258,6 @@ impl Tally {
         self.events.hits[place.expect("every event has its place")] += 1;
     }
 
-    pub fn merge(&mut self, other: &Tally) {
-        self.files += other.files;
-        self.actions += other.actions;
-        self.bytes_compared += other.bytes_compared;
-        self.continuations += other.continuations;
-        self.longest_continuations += other.longest_continuations;
-        self.cells.merge(&other.cells);
-        let others = other.counts();
-        for (counts, other) in self.counts_mut().into_iter().zip(others) {
-            for (hits, other) in counts.hits.iter_mut().zip(&other.hits) {
-                *hits += other;
-            }
-        }
-    }
-
     fn counts(&self) -> [&Counts; 6] {
         [&self.refusals, &self.reports, &self.kinds, &self.modes, &self.events, &self.ways]
     }
@@ -326,6 +312,23 @@ impl Tally {
 impl Default for Tally {
     fn default() -> Tally {
         Tally::new()
+    }
+}
+
+impl Merge for Tally {
+    fn merge(&mut self, other: Tally) {
+        self.files += other.files;
+        self.actions += other.actions;
+        self.bytes_compared += other.bytes_compared;
+        self.continuations += other.continuations;
+        self.longest_continuations += other.longest_continuations;
+        self.cells.merge(&other.cells);
+        let others = other.counts();
+        for (counts, other) in self.counts_mut().into_iter().zip(others) {
+            for (hits, other) in counts.hits.iter_mut().zip(&other.hits) {
+                *hits += other;
+            }
+        }
     }
 }
 

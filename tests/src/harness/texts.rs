@@ -9,7 +9,8 @@ use super::ways;
 use crate::bus::{Record, ALL_NODES};
 use crate::notation::{self, Complaint, Fault, Line};
 use crate::runfile::{BLOCK, FULL};
-use spelling::{any_line, blank_line, join, spell_number, Slot, Word, NAMES};
+pub use spelling::NAMES;
+use spelling::{any_line, blank_line, join, spell_number, Slot, Word};
 pub use wrong::{End, Wrong};
 
 /// A text, and what must come of it; None without a plan.

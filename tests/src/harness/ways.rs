@@ -249,18 +249,24 @@ pub(super) fn right_record(random: &mut Random, n: u8, kind: u8) -> Record {
     let other = random.below(n.into()) as u8;
     let address = random.pick(&[other, other, ALL_NODES]);
     let packet = Packet { address, header: random.word(), data: random.word() };
-    Record::from(match kind {
+    right_action(random, kind, node, packet).into()
+}
+
+/// An action of this kind, with the node and the packet where it names them; a change has the
+/// packet's address or 0.
+fn right_action(random: &mut Random, kind: u8, node: u8, packet: Packet) -> Action {
+    match kind {
         1 => Action::Request { node, packet },
         2 => Action::Arbitrate { node },
         3 => Action::Respond { node, ack: random.byte(0, 15), hold: random.percent(50) },
         4 => Action::Clock { node },
         5 => Action::Pass,
         6 => Action::Lose,
-        7 => Action::Change { address: random.pick(&[0, address]) },
+        7 => Action::Change { address: random.pick(&[0, packet.address]) },
         8 => Action::Grant,
         9 => Action::Gap,
         _ => Action::Reset,
-    })
+    }
 }
 
 fn any_record(random: &mut Random, n: u8) -> Record {

@@ -1,6 +1,6 @@
 //! Refusal 7: actions that are not open, for every reason there is.
 
-use super::{file, nodes, Case, End};
+use super::{file, nodes, right_action, Case, End};
 use crate::bus::{Action, Bus, Mode, Packet, Phase, Record, Signal, ALL_NODES};
 use crate::harness::driver::{Driver, Style};
 use crate::harness::random::Random;
@@ -128,15 +128,7 @@ impl Closed {
             }
             Closed::Elsewhere { kind, phase } if phase_name(bus.phase) == phase => {
                 let node = find(&|node| bus.holder.has(node)).unwrap_or(start);
-                Some(match kind {
-                    4 => Action::Clock { node },
-                    5 => Action::Pass,
-                    6 => Action::Lose,
-                    7 => Action::Change { address: random.pick(&[0, address]) },
-                    8 => Action::Grant,
-                    9 => Action::Gap,
-                    _ => Action::Reset,
-                })
+                Some(right_action(random, kind, node, packet))
             }
             Closed::Elsewhere { .. } => None,
             Closed::ClockNoHolder if bus.phase == Phase::Busy => {
