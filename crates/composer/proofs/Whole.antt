@@ -15,7 +15,7 @@ use Rattle.charts.specs.declared.Action.{Action}
 use Rattle.charts.specs.declared.Decoded.{Decoded}
 use Rattle.charts.specs.declared.Decoded.the-variants as D
 use Rattle.record.specs.Bytes.{bound}
-use Rattle.record.specs.Layout.{blank, recordsOf}
+use Rattle.record.specs.Layout.{recordsOf}
 use Rattle.runfile.specs.Write.{writeNumber, blockOf}
 use Rattle.runfile.specs.File.{blocksFor, fileFrom, fileOf, Taken}
 use Rattle.transcript.specs.declared.Fault.{Fault}
@@ -28,8 +28,8 @@ use Rattle.notation.specs.Meaning.{Meaning, run, wrong, Said, on, off, readOn, 
 use Rattle.composer.specs.declared.Stage.the-variants.{Going, Stopped}
 use Rattle.composer.specs.declared.Composer.{Composer}
 use Rattle.composer.specs.declared.Wrote.{Wrote}
-use Rattle.composer.specs.Composer.{stopped, withBlock, recordsIn, usedBy, quiet, flushOf, heldAfter, feedOf, finishOf, finishHeld, startOf}
-use Rattle.composer.specs.Composed.{putBytes, settled, composedFrom, composed, endsFrom, ends, timesSaid, actionsIn}
+use Rattle.composer.specs.Composer.{stopped, withBlock, recordsIn, usedBy, quiet, flushOf, heldAfter, feedOf, finishOf, finishHeld}
+use Rattle.composer.specs.Composed.{begin, putBytes, settled, composedFrom, composed, endsFrom, ends, timesSaid, actionsIn}
 use Rattle.composer.proofs.Blocks.{At}
 use Rattle.composer.proofs.Standing.{takes, block-taken, file-of, under-accepted, parts-length}
 use Rattle.composer.proofs.Feeding.{lineShown, After, Goes, feed-goes, still}
@@ -218,9 +218,6 @@ one-line t ts later i n l bytes c a few = go (lineOn n l (lineOf t)) (grows n l 
 outcome : (ts : List (List ℕ)) → Outcomes ts
 outcome [] i n l bytes c a few = end i n l bytes c a (omega arith)
 outcome (t ∷ ts) i n l bytes c a few = one-line t ts (outcome ts) i n l bytes c a few
-
-abbrev begin : Composer
-begin = startOf (replicate 496 0) blank
 
 begins : After 0 0 [] [] begin
 begins = record {

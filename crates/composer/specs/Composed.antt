@@ -10,6 +10,9 @@ use Rattle.notation.specs.Meaning.{linesOf}
 use Rattle.composer.specs.declared.Composer.{Composer}
 use Rattle.composer.specs.Composer.{feedOf, putOf, putHeld, finishOf, finishHeld, startOf}
 
+abbrev pub begin : Composer
+begin = startOf (replicate 496 0) blank
+
 -- the composer after k puts, and the blocks that they wrote: what an empty buffer then holds
 abbrev pub putTimes : ℕ → Composer → Composer
 putTimes zero c = c
@@ -27,7 +30,7 @@ composedFrom [] c = finishHeld c []
 composedFrom (t ∷ ts) c = putBytes (feedOf c t .left) (feedOf c t) ++ composedFrom ts (settled (feedOf c t))
 
 unfoldable pub composed : List ℕ → List ℕ
-composed text = composedFrom (linesOf text) (startOf (replicate 496 0) blank)
+composed text = composedFrom (linesOf text) begin
 
 -- the composer after a text, of which the program prints the fault
 abbrev pub endsFrom : List (List ℕ) → Composer → Composer
@@ -35,7 +38,7 @@ endsFrom [] c = finishOf c .composer
 endsFrom (t ∷ ts) c = endsFrom ts (settled (feedOf c t))
 
 unfoldable pub ends : List ℕ → Composer
-ends text = endsFrom (linesOf text) (startOf (replicate 496 0) blank)
+ends text = endsFrom (linesOf text) begin
 
 -- how many actions lines say, "`pass * 6`" being six
 abbrev pub timesSaid : Line → ℕ
