@@ -1,6 +1,6 @@
 // A run in plain words on standard input, its run file on standard output.
 ghost use mathlib.Core.Path.{_≡_};
-ghost use Prim.Native.Nat.{_≤_};
+ghost use Prim.Native.Nat.{_+_, _≤_};
 ghost use lib.ListN.{length};
 use composer::Composer;
 use composer::Stage;
@@ -11,31 +11,69 @@ use transcript::Fault;
 
 const NEWLINE: u8 = 10;
 
-// The composer, how many bytes of the line under way are read, and whether more input may follow.
+// The composer, how many bytes of the line under way are read, how many bytes of blocks wait to go out, and whether more input may follow.
 struct Reading {
     composer: Composer,
     len: usize,
+    held: usize,
     more: bool,
 }
 
-fn write_block(block: &[u8; 512]) {
-    io::write_all(STDOUT_FILENO, block);
+fn store(out: &mut [u8], at: usize, block: &[u8])
+    requires { ⌜ at + length (now block) ≤ length (now out) ⌝ }
+{
+    let mut i: usize = 0;
+    while i < block.len() {
+        out[at + i] = block[i];
+        i += 1;
+    }
 }
 
-// Puts the action under way as often as the line said.
-fn settle(c: Composer) -> Composer {
+fn write_held(out: &[u8], held: usize)
+    requires { ⌜ held ≤ length (now out) ⌝ }
+{
+    io::write_all(STDOUT_FILENO, &out[..held]);
+}
+
+// A written block waits after the `held` bytes of blocks before it, so that 32 of them go out at a time.
+fn hold(out: &mut [u8; 16384], held: usize, block: &[u8; 512], written: bool) -> usize
+    requires { ⌜ held ≤ 16384 ⌝ }
+    ensures { λ r. ⌜ r ≤ 16384 ⌝ }
+{
+    if !written {
+        return held;
+    }
+    if 15872 < held {
+        write_held(out, held);
+        store(out, 0, block);
+        return 512;
+    }
+    store(out, held, block);
+    held + 512
+}
+
+// Puts the action under way as often as the line said. The line is then done.
+fn settle(c: Composer, out: &mut [u8; 16384], held: usize) -> Reading
+    requires { ⌜ held ≤ 16384 ⌝ }
+    ensures { λ r. ⌜ r .len ≡ 0 ⌝ }
+    ensures { λ r. ⌜ r .held ≤ 16384 ⌝ }
+{
     let mut d = c;
     let mut block = [0u8; 512];
+    let mut k = held;
     let mut left = c.left;
     while 0 < left {
         let w = composer::put(d, &mut block);
         d = w.composer;
-        if w.written {
-            write_block(&block);
-        }
+        k = hold(out, k, &block, w.written);
         left -= 1;
     }
-    d
+    Reading {
+        composer: d,
+        len: 0,
+        held: k,
+        more: false,
+    }
 }
 
 // A byte more of the line under way; those past the longest are dropped.
@@ -50,68 +88,66 @@ fn push(line: &mut [u8], len: usize, b: u8) -> usize
     len
 }
 
-fn end_line(c: Composer, line: &[u8], len: usize) -> Composer
-    requires { ⌜ len ≤ length (now line) ⌝ }
+fn end_line(r: Reading, line: &[u8], out: &mut [u8; 16384]) -> Reading
+    requires { ⌜ r .len ≤ length (now line) ⌝ }
+    requires { ⌜ r .held ≤ 16384 ⌝ }
+    ensures { λ s. ⌜ s .len ≡ 0 ⌝ }
+    ensures { λ s. ⌜ s .held ≤ 16384 ⌝ }
 {
-    settle(composer::feed(c, &line[..len]))
+    let c = r.composer;
+    settle(composer::feed(c, &line[..r.len]), out, r.held)
 }
 
 // Takes the bytes of a part of the text.
-fn take_bytes(c: Composer, line: &mut [u8], len: usize, bytes: &[u8]) -> Reading
-    requires { ⌜ len ≤ length (now line) ⌝ }
-    ensures { λ r. ⌜ r .len ≤ length (now (line .exit)) ⌝ }
+fn take_bytes(r: Reading, line: &mut [u8], out: &mut [u8; 16384], bytes: &[u8]) -> Reading
+    requires { ⌜ r .len ≤ length (now line) ⌝ }
+    requires { ⌜ r .held ≤ 16384 ⌝ }
+    ensures { λ s. ⌜ s .len ≤ length (now (line .exit)) ⌝ }
+    ensures { λ s. ⌜ s .held ≤ 16384 ⌝ }
 {
-    let mut d = c;
-    let mut k = len;
+    let mut s = r;
     let mut i: usize = 0;
     while i < bytes.len() {
         let b = bytes[i];
         i += 1;
         if b == NEWLINE {
-            d = end_line(d, line, k);
-            k = 0;
+            s = end_line(s, line, out);
             continue;
         }
-        k = push(line, k, b);
+        s.len = push(line, s.len, b);
     }
-    Reading {
-        composer: d,
-        len: k,
-        more: false,
-    }
+    s
 }
 
 // Takes what one read of the input gives, and answers whether more may follow.
-fn read_some(r: Reading, line: &mut [u8]) -> Reading
+fn read_some(r: Reading, line: &mut [u8], out: &mut [u8; 16384]) -> Reading
     requires { ⌜ r .len ≤ length (now line) ⌝ }
+    requires { ⌜ r .held ≤ 16384 ⌝ }
     ensures { λ s. ⌜ s .len ≤ length (now (line .exit)) ⌝ }
+    ensures { λ s. ⌜ s .held ≤ 16384 ⌝ }
 {
     let mut buf = io::large_buffer();
     let n = io::read_full(STDIN_FILENO, &mut buf);
-    let c = r.composer;
-    let taken = take_bytes(c, line, r.len, &buf[..n]);
-    let d = taken.composer;
-    let stage = d.stage;
+    let mut s = take_bytes(r, line, out, &buf[..n]);
+    let c = s.composer;
+    let stage = c.stage;
     if composer::is_stopped(stage) {
-        return taken;
+        s.more = false;
+        return s;
     }
-    if n < buf.len() {
-        return taken;
-    }
-    Reading {
-        composer: d,
-        len: taken.len,
-        more: true,
-    }
+    s.more = n == buf.len();
+    s
 }
 
 // The whole text. A proved loop has to end, so it counts its turns down from a number that no text uses up.
-fn read_text(line: &mut [u8]) -> Reading
+fn read_text(line: &mut [u8], out: &mut [u8; 16384]) -> Reading
     ensures { λ r. ⌜ r .len ≤ length (now (line .exit)) ⌝ }
+    ensures { λ r. ⌜ r .held ≤ 16384 ⌝ }
 {
     let mut r = Reading {
         composer: composer::start(),
         len: 0,
+        held: 0,
         more: true,
     };
     let mut turns = u64::MAX;
@@ -119,20 +155,22 @@ fn read_text(line: &mut [u8]) -> Reading
         if !r.more {
             return r;
         }
-        r = read_some(r, line);
+        r = read_some(r, line, out);
         turns -= 1;
     }
     r
 }
 
 // A text may end without a newline.
-fn last_line(c: Composer, line: &[u8], len: usize) -> Composer
-    requires { ⌜ len ≤ length (now line) ⌝ }
+fn last_line(r: Reading, line: &[u8], out: &mut [u8; 16384]) -> Reading
+    requires { ⌜ r .len ≤ length (now line) ⌝ }
+    requires { ⌜ r .held ≤ 16384 ⌝ }
+    ensures { λ s. ⌜ s .held ≤ 16384 ⌝ }
 {
-    if len == 0 {
-        return c;
+    if r.len == 0 {
+        return r;
     }
-    end_line(c, line, len)
+    end_line(r, line, out)
 }
 
 // One line on standard error for a fault.
@@ -151,9 +189,17 @@ fn report_fault(line: u64, fault: Fault, text: &mut [u8])
     io::write_all(STDERR_FILENO, &text[..n]);
 }
 
-// Writes the last block, or says what is wrong.
-fn end(c: Composer) {
+fn write_block(block: &[u8; 512]) {
+    io::write_all(STDOUT_FILENO, block);
+}
+
+// Writes the blocks that wait and the last one, or says what is wrong.
+fn end(r: Reading, out: &[u8; 16384])
+    requires { ⌜ r .held ≤ 16384 ⌝ }
+{
+    write_held(out, r.held);
     let mut block = [0u8; 512];
+    let c = r.composer;
     let w = composer::finish(c, &mut block);
     if w.written {
         write_block(&block);
@@ -162,14 +208,14 @@ fn end(c: Composer) {
     report(d);
 }
 
-fn compose(line: &mut [u8]) {
-    let r = read_text(line);
-    let c = r.composer;
-    end(last_line(c, line, r.len));
+fn compose(line: &mut [u8], out: &mut [u8; 16384]) {
+    let r = read_text(line, out);
+    end(last_line(r, line, out), out);
 }
 
 fn main() {
     // The longest line is 255 bytes; a byte more shows that a line is longer.
     let mut line = [0u8; 256];
-    compose(&mut line);
+    let mut out = [0u8; 16384];
+    compose(&mut line, &mut out);
 }

@@ -1,24 +1,23 @@
 -- One action put into the block under way. Assumes nothing.
-use mathlib.Core.Path.{_≡_, refl, ap, ap₂, sym, _∙_}
-use mathlib.Core.Bool.{Bool, true, false, cond, not}
+use mathlib.Core.Path.{_≡_, refl, sym, _∙_}
+use mathlib.Core.Bool.{true, false}
 use mathlib.Core.List.{List, [], _∷_, _++_, append-assoc, append-nil}
-use Prim.Native.Nat.{ℕ, zero, suc, _+_, _*_, _-_, _<_, _≤_}
+use Prim.Native.Nat.{ℕ, suc, _+_, _*_, _-_, _<_, _≤_}
 use native.Mathlib.Omega.{arith}
-use borrow.Author.Tests.{lt-ltb, le-ltb, le-leb, eq-eqb, ne-eqb}
-use lib.Dec.{eqb, ltb, leb}
+use borrow.Author.Tests.{lt-ltb, le-ltb, le-leb, ne-eqb}
+use lib.Dec.{eqb, ltb}
 use lib.ListN.{length, take, drop, length-append, length-drop}
-use lib.Seq.{take-at, length-take-le}
+use lib.Seq.{take-at}
 use Rattle.charts.specs.declared.Action.{Action}
-use Rattle.record.specs.Bytes.{hasRoom, placed, putAt}
+use Rattle.record.specs.Bytes.{putAt}
 use Rattle.record.specs.Layout.{bytesOf, recordsOf}
 use Rattle.record.proofs.Round.{length-bytes}
-use Rattle.runfile.specs.Write.{writeNumber, blockWith, blockOf}
+use Rattle.runfile.specs.Write.{writeNumber, blockOf}
 use Rattle.runfile.proofs.Lists.{records-length}
 use Rattle.composer.specs.declared.Stage.the-variants.{Going}
 use Rattle.composer.specs.declared.Composer.{Composer}
-use Rattle.composer.specs.declared.Wrote.{Wrote}
 use Rattle.notation.specs.Words.{limit}
-use Rattle.composer.specs.Composer.{isStopped, quiet, stored, writtenAs, withBlock, recordsIn, flushOf, heldAfter, putOf, putHeld}
+use Rattle.composer.specs.Composer.{quiet, stored, withBlock, recordsIn, flushOf, heldAfter, putOf, putHeld}
 
 -- a composer at block i, in which the records of l stand
 pub record At (n i : ℕ) (l : List Action) (c : Composer) : Type 0 where
@@ -61,6 +60,7 @@ pub record Puts (n i k : ℕ) (l : List Action) (a : Action) (c : Composer) (byt
   pub at : At n i l (putOf c .composer)
   pub action : putOf c .composer .action ≡ a
   pub left : putOf c .composer .left ≡ k
+  pub line : putOf c .composer .line ≡ c .line
   pub wrote : putHeld c [] ≡ bytes
 
 module _ (n i k : ℕ) (l : List Action) (a : Action) (c : Composer) (at : At n i l c) (act : c .action ≡ a) (left : c .left ≡ suc k) where
@@ -91,6 +91,7 @@ module _ (n i k : ℕ) (l : List Action) (a : Action) (c : Composer) (at : At n 
         });
         action = rw e act;
         left = rw (e, left) (omega arith);
+        line = rw e;
         wrote = rw e;
       }
 
@@ -125,5 +126,6 @@ module _ (n i k : ℕ) (l : List Action) (a : Action) (c : Composer) (at : At n 
         });
         action = rw e act;
         left = rw (e, left) (omega arith);
+        line = rw e;
         wrote = rw (e, at .blocks, at .nodes, all-records full);
       }

@@ -1,319 +1,268 @@
--- A text that means n and l is composed to the file of l for n nodes. Assumes nothing.
-use mathlib.Core.Path.{_≡_, refl, ap, ap₂, sym, _∙_}
+-- What a text's meaning says of the composer: a run is composed to its file, a fault stops it on its line. Assumes nothing.
+use mathlib.Core.Path.{_≡_, refl, ap, sym, _∙_}
 use mathlib.Core.Bool.{Bool, true, false, cond, not}
 use mathlib.Core.List.{List, [], _∷_, _++_, append-assoc, append-nil}
-use Prim.Native.Nat.{ℕ, zero, suc, _+_, _*_, _-_, _/_, _<_, _≤_}
+use Prim.Native.Nat.{ℕ, zero, suc, _+_, _*_, _^_, _<_, _≤_}
 use native.Mathlib.Omega.{arith}
-use borrow.Author.Tests.{lt-ltb, le-ltb, eq-eqb, ne-eqb, eqb-true, eqb-false, ltb-true, ltb-false}
+use borrow.Author.Tests.{lt-ltb, ne-eqb, eqb-true, eqb-false}
 use lib.Dec.{eqb, ltb}
-use lib.ListN.{length, take, drop, replicate, length-append, length-drop, length-replicate}
-use lib.Seq.{take-at, drop-at, drop-drop, take-all, drop-append-seam}
+use lib.ListN.{length, replicate, length-append, length-replicate}
+use lib.Seq.{take-all}
 use Rattle.charts.specs.Numbers as N
 use Rattle.charts.specs.Valid.{isSize}
 use Rattle.charts.specs.Records.{read}
 use Rattle.charts.specs.declared.Action.{Action}
-use Rattle.charts.specs.declared.Move.{Move}
 use Rattle.charts.specs.declared.Decoded.{Decoded}
 use Rattle.charts.specs.declared.Decoded.the-variants as D
-use Rattle.record.specs.Layout.{blank, recordsOf}
+use Rattle.record.specs.Bytes.{bound}
+use Rattle.record.specs.Layout.{recordsOf}
 use Rattle.runfile.specs.Write.{writeNumber, blockOf}
-use Rattle.runfile.specs.File.{blocksFor, fileFrom, fileOf, Taken, OneFile}
-use Rattle.runfile.proofs.Files.{one-file}
+use Rattle.runfile.specs.File.{blocksFor, fileFrom, fileOf, Taken}
 use Rattle.transcript.specs.declared.Fault.{Fault}
 use Rattle.transcript.specs.declared.Fault.the-variants as F
 use Rattle.notation.specs.declared.Line.{Line}
 use Rattle.notation.specs.declared.Line.the-variants as L
-use Rattle.composer.specs.declared.Stage.the-variants.{Going}
-use Rattle.composer.specs.declared.Composer.{Composer}
 use Rattle.notation.specs.Words.{limit}
 use Rattle.notation.specs.Grammar.{lineOf}
-use Rattle.composer.specs.Composer.{onLine, counted, forNodes, toPut, nodesTaken, actionTaken, lineTaken, feedOf, recordsIn, usedBy, quiet, flushOf, heldAfter, putOf, putHeld, finishOf, finishHeld, startOf}
-use Rattle.composer.specs.Composed.{putTimes, putBytes, composedFrom, composed}
 use Rattle.notation.specs.Meaning.{Meaning, run, wrong, Said, on, off, readOn, lineOn, endOn, afterLine, meaningFrom, linesOf, meaningOf}
-use Rattle.composer.proofs.Blocks.{At, Puts, put-short, put-full}
+use Rattle.composer.specs.declared.Stage.the-variants.{Going, Stopped}
+use Rattle.composer.specs.declared.Composer.{Composer}
+use Rattle.composer.specs.declared.Wrote.{Wrote}
+use Rattle.composer.specs.Composer.{stopped, withBlock, recordsIn, usedBy, quiet, flushOf, heldAfter, feedOf, finishOf, finishHeld}
+use Rattle.composer.specs.Composed.{begin, putBytes, settled, composedFrom, composed, endsFrom, ends, timesSaid, actionsIn}
+use Rattle.composer.proofs.Blocks.{At}
+use Rattle.composer.proofs.Standing.{takes, block-taken, file-of, under-accepted, parts-length}
+use Rattle.composer.proofs.Feeding.{lineShown, After, Goes, feed-goes, still}
 
--- the blocks from number i on of actions X
-abbrev blocksOf : ℕ → ℕ → List Action → List ℕ
-blocksOf n i x = fileFrom (blocksFor (length x)) i n x
+-- what a composer makes of the rest of a text with that meaning, `bytes` being written
+abbrev Outcome : List ℕ → List (List ℕ) → Composer → Meaning → Type 0
+Outcome bytes ts c (run n l) = Taken n l × (bytes ++ composedFrom ts c ≡ fileOf n l) × (endsFrom ts c .stage ≡ Going)
+Outcome bytes ts c (wrong i f) = (endsFrom ts c .stage ≡ Stopped f) × (endsFrom ts c .line ≡ lineShown i)
 
-full-first : (n i : ℕ) (l m : List Action) → length l ≡ 31 → blocksOf n i (l ++ m) ≡ blockOf i n l ++ blocksOf n (suc i) m
-full-first n i l m full =
-    let e : blocksFor (length (l ++ m)) ≡ suc (blocksFor (length m)) = rw (length-append l m, full) (omega arith) in
-    rw (e, take-at l m 31 full, drop-at l m 31 full)
-
-only-block : (n i : ℕ) (l : List Action) → 0 < length l → length l ≤ 31 → blocksOf n i l ≡ blockOf i n l
-only-block n i l some few =
+one-block : (n i : ℕ) (l : List Action) → 0 < length l → length l ≤ 31 → fileFrom (blocksFor (length l)) i n l ≡ blockOf i n l
+one-block n i l some few =
     let e : blocksFor (length l) ≡ 1 = omega arith in
     rw (e, take-all 31 l few, append-nil)
 
-module _ (n : ℕ) (whole : List Action) (taken : Taken n whole) where
-  one : OneFile n whole
-  one = one-file n whole taken
+-- the end of a text: no `nodes` line, no action, no block under way, and a block under way, which is written
+module _ (n i : ℕ) (l : List Action) (c : Composer) (at : At n i l c) (idle : c .left ≡ 0) where
+  finish-missing : eqb n 0 ≡ true → finishOf c ≡ quiet (stopped c F.NodesMissing)
+  unfolding finishOf
+  finish-missing h =
+      let nodes : eqb (c .n) 0 ≡ true = rw (at .nodes) h in
+      rw (at .going, idle, nodes)
 
-  -- a block that begins with l, at the place of block i, is one that the writer takes
-  block-taken : (i : ℕ) (l m : List Action) → drop (31 * i) whole ≡ l ++ m → 0 < length l → length l ≤ 31 → take 31 (l ++ m) ≡ l
-      → (i < limit) × (writeNumber 512 n (recordsOf l) ≡ 0)
-  block-taken i l m e some few first =
-      let sizes = ap length e in
-      let left = length-drop (31 * i) whole in
-      let both = length-append l m in
-      let within : 31 * i < length whole = omega arith in
-      let limits = taken .numbered in
-      (omega arith, rw (e, first) at (one .written i within))
+  module _ (some : eqb n 0 ≡ false) where
+    nodes-told : eqb (c .n) 0 ≡ false
+    nodes-told = rw (at .nodes) some
 
-  nothing : (b : Bool) (x y : Composer) (s : List ℕ) → cond ((cond b (quiet x) (quiet y)) .written) s [] ≡ []
-  nothing true x y s = refl
-  nothing false x y s = refl
+    finish-empty : length l ≡ 0 → i ≡ 0 → finishOf c ≡ quiet (stopped c F.NoAction)
+    unfolding finishOf
+    finish-empty none first =
+        let count : c .count ≡ 0 = at .count ∙ none in
+        let blocks : c .blocks ≡ 0 = at .blocks ∙ first in
+        rw (at .going, idle, nodes-told, count, blocks)
 
-  -- the composer after some puts: where it is, and what was written on the way
-  record Went (i : ℕ) (x rest : List Action) (bytes : List ℕ) (c : Composer) : Type 0 where
-    block : ℕ
-    under : List Action
-    at : At n block under c
-    few : length under < 31
-    idle : c .left ≡ 0
-    place : drop (31 * block) whole ≡ under ++ rest
-    file : blocksOf n i x ≡ bytes ++ blocksOf n block (under ++ rest)
+    finish-full : length l ≡ 0 → 0 < i → finishOf c ≡ quiet c
+    unfolding finishOf
+    finish-full none later =
+        let count : c .count ≡ 0 = at .count ∙ none in
+        let blocks : eqb (c .blocks) 0 ≡ false = rw (at .blocks) (ne-eqb i 0 (λ e. omega arith)) in
+        rw (at .going, idle, nodes-told, count, blocks)
 
-  -- k puts of an action from any place on
-  abbrev Puts-all : ℕ → Action → List Action → Type 0
-  Puts-all k a rest =
-      (i : ℕ) (l : List Action) (c : Composer) → At n i l c → length l < 31 → c .action ≡ a → c .left ≡ k → drop (31 * i) whole ≡ l ++ (replicate k a ++ rest)
-      → Went i (l ++ (replicate k a ++ rest)) rest (putBytes k c) (putTimes k c)
+    held-full : length l ≡ 0 → 0 < i → finishHeld c [] ≡ []
+    unfolding heldAfter
+    held-full none later = rw (finish-full none later)
 
-  one-more : (k : ℕ) (a : Action) (rest : List Action) → Puts-all k a rest → Puts-all (suc k) a rest
-  one-more k a rest next i l c at few act left e = go (ltb (length l) 30) refl
+    module _ (under : 0 < length l) (few : length l < 31) (fits : i < limit) (taken : writeNumber 512 n (recordsOf l) ≡ 0) where
+      all-records : recordsIn c (usedBy (c .count)) ≡ recordsOf l
+      all-records =
+          let used : usedBy (c .count) ≡ 16 * length l = rw (at .count, lt-ltb (length l) 31 few) in
+          rw used (at .holds)
+
+      finish-under : finishOf c ≡ record { composer = withBlock c (c .blocks + 1) 0 (c .records) (c .left); written = true }
+      unfolding finishOf flushOf
+      finish-under =
+          let count : eqb (c .count) 0 ≡ false = rw (at .count) (ne-eqb (length l) 0 (λ e. omega arith)) in
+          let small : ltb (c .blocks) limit ≡ true = rw (at .blocks) (lt-ltb i limit fits) in
+          let number : writeNumber 512 (c .n) (recordsIn c (usedBy (c .count))) ≡ 0 = rw (at .nodes, all-records) taken in
+          rw (at .going, idle, nodes-told, count, small, number)
+
+      held-under : finishHeld c [] ≡ blockOf i n l
+      unfolding heldAfter
+      held-under = rw (finish-under, all-records, at .blocks, at .nodes)
+
+stage-of : {w : Wrote} {c : Composer} {b : Bool} → w ≡ record { composer = c; written = b } → w .composer .stage ≡ c .stage
+stage-of e = ap (λ (x : Wrote). x .composer .stage) e
+
+line-of : {w : Wrote} {c : Composer} {b : Bool} → w ≡ record { composer = c; written = b } → w .composer .line ≡ c .line
+line-of e = ap (λ (x : Wrote). x .composer .line) e
+
+module _ (i n : ℕ) (l : List Action) (bytes : List ℕ) (c : Composer) (a : After i n l bytes c) (few : length l ≤ 31 * bound 4) where
+  end-missing : eqb n 0 ≡ true → Outcome bytes [] c (wrong i F.NodesMissing)
+  end-missing h =
+      let s = a .stands in
+      let e = finish-missing n (s .block) (s .under) c (s .at) (a .idle) h in
+      (stage-of e, line-of e ∙ a .line)
+
+  end-empty : eqb n 0 ≡ false → length l ≡ 0 → Outcome bytes [] c (wrong i F.NoAction)
+  end-empty h none =
+      let s = a .stands in
+      let sizes = parts-length (a .stands) in
+      let e = finish-empty n (s .block) (s .under) c (s .at) (a .idle) h (omega arith) (omega arith) in
+      (stage-of e, line-of e ∙ a .line)
+
+  end-full : eqb n 0 ≡ false → 1 ≤ length l → length (a .stands .under) ≡ 0 → Outcome bytes [] c (run n l)
+  end-full h some none =
+      let s = a .stands in
+      let sizes = parts-length (a .stands) in
+      let later : 0 < a .stands .block = omega arith in
+      let blocks : blocksFor (length (a .stands .under)) ≡ 0 = omega arith in
+      let file : fileOf n l ≡ bytes ++ [] = rw blocks at (file-of (a .stands)) in (
+        takes n l (a .sized h) (s .accepted) some few,
+        ap (λ (x : List ℕ). bytes ++ x) (held-full n (s .block) (s .under) c (s .at) (a .idle) h none later) ∙ sym file,
+        stage-of (finish-full n (s .block) (s .under) c (s .at) (a .idle) h none later) ∙ s .at .going,
+      )
+
+  end-under : eqb n 0 ≡ false → 0 < length (a .stands .under) → Outcome bytes [] c (run n l)
+  end-under h under =
+      let s = a .stands in
+      let sizes = parts-length (a .stands) in
+      let small = s .few in
+      let fits : a .stands .block < bound 4 = omega arith in
+      let taken = block-taken n (s .under) (a .sized h) (under-accepted s) under (omega arith) in
+      let file : fileOf n l ≡ bytes ++ blockOf (s .block) n (s .under) = rw (one-block n (s .block) (s .under) under (omega arith)) at (file-of (a .stands)) in (
+        takes n l (a .sized h) (s .accepted) (omega arith) few,
+        ap (λ (x : List ℕ). bytes ++ x) (held-under n (s .block) (s .under) c (s .at) (a .idle) h under small fits taken) ∙ sym file,
+        stage-of (finish-under n (s .block) (s .under) c (s .at) (a .idle) h under small fits taken) ∙ s .at .going,
+      )
+
+  end-run : eqb n 0 ≡ false → 1 ≤ length l → Outcome bytes [] c (run n l)
+  end-run h some = go (eqb (length (a .stands .under)) 0) refl
     where
-      split : l ++ (a ∷ (replicate k a ++ rest)) ≡ (l ++ (a ∷ [])) ++ (replicate k a ++ rest)
-      split = sym (append-assoc l (a ∷ []) (replicate k a ++ rest))
+      go : (b : Bool) → eqb (length (a .stands .under)) 0 ≡ b → Outcome bytes [] c (run n l)
+      go true e = end-full h some (eqb-true (length (a .stands .under)) 0 e)
+      go false e = end-under h (let z = eqb-false (length (a .stands .under)) 0 e in omega arith)
 
-      longer : length (l ++ (a ∷ [])) ≡ suc (length l)
-      longer = length-append l (a ∷ []) ∙ omega arith
+  end : Outcome bytes [] c (endOn i n l)
+  end = go (eqb n 0) (eqb (length l) 0) refl refl
+    where
+      go : (b s : Bool) → eqb n 0 ≡ b → eqb (length l) 0 ≡ s → Outcome bytes [] c (cond b (wrong i F.NodesMissing) (cond s (wrong i F.NoAction) (run n l)))
+      go true s p q = end-missing p
+      go false true p q = end-empty p (eqb-true (length l) 0 q)
+      go false false p q = end-run p (let z = eqb-false (length l) 0 q in omega arith)
 
-      go : (b : Bool) → ltb (length l) 30 ≡ b → Went i (l ++ (a ∷ (replicate k a ++ rest))) rest (putBytes (suc k) c) (putTimes (suc k) c)
-      go true h =
-          let p = put-short n i k l a c at act left (ltb-true (length l) 30 h) in
-          let small = ltb-true (length l) 30 h in
-          let size = longer in
-          let r = next i (l ++ (a ∷ [])) (putOf c .composer) (p .at) (omega arith) (p .action) (p .left) (e ∙ split) in
-          record {
-            block = r .block;
-            under = r .under;
-            at = r .at;
-            few = r .few;
-            idle = r .idle;
-            place = r .place;
-            file = ap (λ (x : List Action). blocksOf n i x) split ∙ (r .file ∙ rw (p .wrote));
-          }
-      go false h =
-          let big = ltb-false (length l) 30 h in
-          let full : length l ≡ 30 = omega arith in
-          let size = longer in
-          let chunk : length (l ++ (a ∷ [])) ≡ 31 = omega arith in
-          let t = block-taken i (l ++ (a ∷ [])) (replicate k a ++ rest) (e ∙ split) (omega arith) (omega arith) (take-at (l ++ (a ∷ [])) (replicate k a ++ rest) 31 chunk) in
-          let p = put-full n i k l a c at act left full (t .0) (t .1) in
-          let step : 31 * suc i ≡ 31 * i + 31 = omega arith in
-          let after : drop (31 * suc i) whole ≡ (replicate k a ++ rest)
-          = ap (λ (j : ℕ). drop j whole) step ∙ (sym (drop-drop 31 (31 * i) whole) ∙ (ap (drop 31) (e ∙ split) ∙ drop-at (l ++ (a ∷ [])) (replicate k a ++ rest) 31 chunk)) in
-          let r = next (suc i) [] (putOf c .composer) (p .at) (omega arith) (p .action) (p .left) after in
-          record {
-            block = r .block;
-            under = r .under;
-            at = r .at;
-            few = r .few;
-            idle = r .idle;
-            place = r .place;
-            file = ap (λ (x : List Action). blocksOf n i x) split
-                ∙ (full-first n i (l ++ (a ∷ [])) (replicate k a ++ rest) chunk
-                ∙ (ap (λ (x : List ℕ). blockOf i n (l ++ (a ∷ [])) ++ x) (r .file)
-                ∙ (sym (append-assoc (blockOf i n (l ++ (a ∷ []))) (putBytes k (putOf c .composer)) (blocksOf n (r .block) (r .under ++ rest))) ∙ rw (p .wrote))));
-          }
+-- how many actions a line adds to those before it, and how many a whole text says
+abbrev Grows : ℕ → Said → Type 0
+Grows size (on n l) = length l ≡ size
+Grows size (off f) = Unit
 
-  puts : (k : ℕ) (a : Action) (rest : List Action) → Puts-all k a rest
-  puts zero a rest i l c at few act left e = record { block = i; under = l; at = at; few = few; idle = left; place = e; file = refl }
-  puts (suc k) a rest i l c at few act left e = one-more k a rest (puts k a rest) i l c at few act left e
-
-  -- the end of the text
-  finish-held : (i : ℕ) (l : List Action) (c : Composer) → At n i l c → length l < 31 → c .left ≡ 0 → eqb n 0 ≡ false → drop (31 * i) whole ≡ l
-      → finishHeld c [] ≡ blocksOf n i l
-  unfolding finishOf flushOf heldAfter
-  finish-held i [] c at few left some e =
-      let nodes : eqb (c .n) 0 ≡ false = rw (at .nodes) some in
-      rw (at .going, left, nodes, at .count) (nothing (eqb (c .blocks) 0) _ _ _)
-  finish-held i (a ∷ l) c at few left some e =
-      let nodes : eqb (c .n) 0 ≡ false = rw (at .nodes) some in
-      let count : eqb (c .count) 0 ≡ false = rw (at .count) (ne-eqb (suc (length l)) 0 (λ q. omega arith)) in
-      let used : usedBy (c .count) ≡ 16 * suc (length l) = rw (at .count, lt-ltb (suc (length l)) 31 few) in
-      let records : recordsIn c (usedBy (c .count)) ≡ recordsOf (a ∷ l) = rw used (at .holds) in
-      let short : length (a ∷ l) ≤ 31 = omega arith in
-      let t = block-taken i (a ∷ l) [] (e ∙ sym (append-nil (a ∷ l))) (omega arith) short (ap (take 31) (append-nil (a ∷ l)) ∙ take-all 31 (a ∷ l) short) in
-      let small : ltb (c .blocks) limit ≡ true = rw (at .blocks) (lt-ltb i limit (t .0)) in
-      let number : writeNumber 512 (c .n) (recordsIn c (usedBy (c .count))) ≡ 0 = rw (at .nodes, records) (t .1) in
-      rw (at .going, left, nodes, count, small, number, records, at .blocks, at .nodes) (sym (only-block n i (a ∷ l) (omega arith) short))
-
--- a line x that goes on, and what it makes of n and the actions so far
-data Step (m : ℕ) (acc : List Action) (x : Line) (m2 : ℕ) (acc2 : List Action) : Type 0 where
-  blank-line : x ≡ L.Blank → m ≡ m2 → acc ≡ acc2 → Step m acc x m2 acc2
-  nodes-line : x ≡ L.Nodes m2 → eqb m 0 ≡ true → isSize m2 ≡ true → acc ≡ acc2 → Step m acc x m2 acc2
-  action-line : (a : Action) (k : ℕ) (v : Move) → x ≡ L.Acts a k → eqb m 0 ≡ false → read m a ≡ D.Accepted v → m ≡ m2 → acc ++ replicate k a ≡ acc2 → Step m acc x m2 acc2
-
-step-of : (m : ℕ) (acc : List Action) (x : Line) (m2 : ℕ) (acc2 : List Action) → lineOn m acc x ≡ on m2 acc2 → Step m acc x m2 acc2
-step-of m acc L.Blank m2 acc2 h = blank-line refl (cc) (cc)
-step-of m acc (L.Nodes k) m2 acc2 h = go (eqb m 0) (isSize k) refl refl h
+grows : (n : ℕ) (l : List Action) (x : Line) → Grows (length l + timesSaid x) (lineOn n l x)
+grows n l L.Blank = omega arith
+grows n l (L.Nodes m) = go (eqb n 0) (isSize m)
   where
-    go : (b s : Bool) → eqb m 0 ≡ b → isSize k ≡ s
-        → cond (not b) (off F.NodesAgain) (cond (not s) (off (F.Refused N.wrong-size)) (on k acc)) ≡ on m2 acc2 → Step m acc (L.Nodes k) m2 acc2
-    go true true eb es e =
-        let p : k ≡ m2 = cc in
-        nodes-line (ap L.Nodes p) eb (rw p at es) (cc)
-    go true false eb es e = absurd (let z : _≡_ {A = ℕ} 0 1 = cc in omega arith)
-    go false s eb es e = absurd (let z : _≡_ {A = ℕ} 0 1 = cc in omega arith)
-step-of m acc (L.Acts a k) m2 acc2 h = go (eqb m 0) (read m a) refl refl h
+    go : (b s : Bool) → Grows (length l + 0) (cond (not b) (off F.NodesAgain) (cond (not s) (off (F.Refused N.wrong-size)) (on m l)))
+    go true true = omega arith
+    go true false = tt
+    go false s = tt
+grows n l (L.Acts a k) = go (eqb n 0) (read n a)
   where
-    go : (b : Bool) (d : Decoded) → eqb m 0 ≡ b → read m a ≡ d → cond b (off F.NodesMissing) (readOn m acc a k d) ≡ on m2 acc2 → Step m acc (L.Acts a k) m2 acc2
-    go false (D.Accepted v) eb ed e = action-line a k v refl eb ed (cc) (cc)
-    go false (D.Refused j) eb ed e = absurd (let z : _≡_ {A = ℕ} 0 1 = cc in omega arith)
-    go true d eb ed e = absurd (let z : _≡_ {A = ℕ} 0 1 = cc in omega arith)
-step-of m acc (L.Wrong f) m2 acc2 h = absurd (let z : _≡_ {A = ℕ} 0 1 = cc in omega arith)
+    go : (b : Bool) (d : Decoded) → Grows (length l + k) (cond b (off F.NodesMissing) (readOn n l a k d))
+    go true d = tt
+    go false (D.Refused j) = tt
+    go false (D.Accepted v) = let times = length-replicate k a in length-append l (replicate k a) ∙ omega arith
+grows n l (L.Wrong f) = tt
 
--- what a text's meaning says of its beginning
-record Ends (n : ℕ) (whole : List Action) (m : ℕ) (acc : List Action) : Type 0 where
-  rest : List Action
-  all : whole ≡ acc ++ rest
-  same : eqb m 0 ≡ false → m ≡ n
+abbrev Sums : ℕ → Meaning → Type 0
+Sums size (run n l) = length l ≡ size
+Sums size (wrong i f) = Unit
 
-module _ (n : ℕ) (whole : List Action) where
-  ended : (i m : ℕ) (acc : List Action) → endOn i m acc ≡ run n whole → (eqb m 0 ≡ false) × (m ≡ n) × (acc ≡ whole)
-  ended i m acc h = go (eqb m 0) (eqb (length acc) 0) refl h
-    where
-      go : (b s : Bool) → eqb m 0 ≡ b → cond b (wrong i F.NodesMissing) (cond s (wrong i F.NoAction) (run m acc)) ≡ run n whole
-          → (eqb m 0 ≡ false) × (m ≡ n) × (acc ≡ whole)
-      go false false e q = (e, cc, cc)
-      go false true e q = absurd (let z : _≡_ {A = ℕ} 0 1 = cc in omega arith)
-      go true s e q = absurd (let z : _≡_ {A = ℕ} 0 1 = cc in omega arith)
+sums : (ts : List (List ℕ)) (i n : ℕ) (l : List Action) → Sums (length l + actionsIn ts) (meaningFrom ts i n l)
+sums [] i n l = go (eqb n 0) (eqb (length l) 0)
+  where
+    go : (b s : Bool) → Sums (length l + 0) (cond b (wrong i F.NodesMissing) (cond s (wrong i F.NoAction) (run n l)))
+    go true s = tt
+    go false true = tt
+    go false false = omega arith
+sums (t ∷ ts) i n l = go (sums ts (suc i)) (lineOn n l (lineOf t)) (grows n l (lineOf t))
+  where
+    go : ((m : ℕ) (k : List Action) → Sums (length k + actionsIn ts) (meaningFrom ts (suc i) m k)) → (s : Said) → Grows (length l + timesSaid (lineOf t)) s
+        → Sums (length l + (timesSaid (lineOf t) + actionsIn ts)) (afterLine (suc i) s (meaningFrom ts (suc i)))
+    go later (on m k) g =
+        let e : length k + actionsIn ts ≡ length l + (timesSaid (lineOf t) + actionsIn ts) = omega arith in
+        rw e at (later m k)
+    go later (off f) g = tt
 
-  abbrev Ends-all : List (List ℕ) → Type 0
-  Ends-all ts = (i m : ℕ) (acc : List Action) → meaningFrom ts i m acc ≡ run n whole → Ends n whole m acc
+-- the lines of a text one after the other
+abbrev Outcomes : List (List ℕ) → Type 0
+Outcomes ts =
+    (i n : ℕ) (l : List Action) (bytes : List ℕ) (c : Composer) → After i n l bytes c → length l + actionsIn ts ≤ 31 * bound 4 → Outcome bytes ts c (meaningFrom ts i n l)
 
-  line-ends : (t : List ℕ) (ts : List (List ℕ)) → Ends-all ts → Ends-all (t ∷ ts)
-  line-ends t ts next i m acc h = go (lineOn m acc (lineOf t)) refl h
-    where
-      by : (m2 : ℕ) (acc2 : List Action) → Step m acc (lineOf t) m2 acc2 → Ends n whole m2 acc2 → Ends n whole m acc
-      by m2 acc2 (blank-line x p q) r = rw (p, q) r
-      by m2 acc2 (nodes-line x e s q) r =
-          record { rest = r .rest; all = rw q (r .all); same = λ o. absurd (let z : true ≡ false = sym e ∙ o in let y : _≡_ {A = ℕ} 0 1 = cc in omega arith) }
-      by m2 acc2 (action-line a k v x e s p q) r = record {
-        rest = replicate k a ++ r .rest;
-        all = rw (sym q) at (r .all) ∙ append-assoc acc (replicate k a) (r .rest);
-        same = λ o. p ∙ r .same (rw p at o);
-      }
+line-first : (bytes : List ℕ) (t : List ℕ) (ts : List (List ℕ)) (c : Composer) (x : Meaning)
+    → Outcome (bytes ++ putBytes (feedOf c t .left) (feedOf c t)) ts (settled (feedOf c t)) x → Outcome bytes (t ∷ ts) c x
+line-first bytes t ts c (run n l) o =
+    (o .0, sym (append-assoc bytes (putBytes (feedOf c t .left) (feedOf c t)) (composedFrom ts (settled (feedOf c t)))) ∙ o .1, o .2)
+line-first bytes t ts c (wrong i f) o = o
 
-      go : (s : Said) → lineOn m acc (lineOf t) ≡ s → afterLine (suc i) s (meaningFrom ts (suc i)) ≡ run n whole → Ends n whole m acc
-      go (on m2 acc2) e q = by m2 acc2 (step-of m acc (lineOf t) m2 acc2 e) (next (suc i) m2 acc2 q)
-      go (off f) e q = absurd (let z : _≡_ {A = ℕ} 0 1 = cc in omega arith)
+one-line : (t : List ℕ) (ts : List (List ℕ)) → Outcomes ts → Outcomes (t ∷ ts)
+one-line t ts later i n l bytes c a few = go (lineOn n l (lineOf t)) (grows n l (lineOf t)) (feed-goes i n l bytes c a t)
+  where
+    go : (s : Said) → Grows (length l + timesSaid (lineOf t)) s → Goes (suc i) bytes (feedOf c t) s → Outcome bytes (t ∷ ts) c (afterLine (suc i) s (meaningFrom ts (suc i)))
+    go (on m k) g w =
+        line-first bytes t ts c (meaningFrom ts (suc i) m k)
+        (later (suc i) m k (bytes ++ putBytes (feedOf c t .left) (feedOf c t)) (settled (feedOf c t)) (w (omega arith)) (omega arith))
+    go (off f) g w =
+        let e = still (feedOf c t) f (w .0) (feedOf c t .left) ts in
+        (ap (λ (x : Composer). x .stage) e ∙ w .0, ap (λ (x : Composer). x .line) e ∙ w .1)
 
-  ends : (ts : List (List ℕ)) → Ends-all ts
-  ends [] i m acc h =
-      let e = ended i m acc h in
-      record { rest = []; all = sym (e .2) ∙ sym (append-nil acc); same = λ s. e .1 }
-  ends (t ∷ ts) i m acc h = line-ends t ts (ends ts) i m acc h
+outcome : (ts : List (List ℕ)) → Outcomes ts
+outcome [] i n l bytes c a few = end i n l bytes c a (omega arith)
+outcome (t ∷ ts) i n l bytes c a few = one-line t ts (outcome ts) i n l bytes c a few
 
--- a line fed to a composer that goes on
-module _ (m i : ℕ) (l : List Action) (c : Composer) (t : List ℕ) (at : At m i l c) (left : c .left ≡ 0) where
-  feed-blank : lineOf t ≡ L.Blank → feedOf c t ≡ onLine c (counted (c .line))
-  unfolding feedOf lineTaken
-  feed-blank e = rw (at .going, left, e)
+begins : After 0 0 [] [] begin
+begins = record {
+  stands = record {
+    block = 0;
+    full = [];
+    under = [];
+    parts = refl;
+    size = refl;
+    few = omega arith;
+    at = record { going = refl; nodes = refl; blocks = refl; count = refl; size = refl; holds = refl };
+    accepted = tt;
+    wrote = refl;
+  };
+  idle = refl;
+  line = refl;
+  sized = λ e. absurd (let z : _≡_ {A = ℕ} 0 1 = cc in omega arith);
+  none = λ e. refl;
+}
 
-  feed-nodes : (k : ℕ) → eqb m 0 ≡ true → isSize k ≡ true → lineOf t ≡ L.Nodes k → feedOf c t ≡ forNodes (onLine c (counted (c .line))) k
-  unfolding feedOf lineTaken nodesTaken
-  feed-nodes k h s e =
-      let first : eqb (c .n) 0 ≡ true = rw (at .nodes) h in
-      rw (at .going, left, e, first, s)
+of-text : (text : List ℕ) → actionsIn (linesOf text) ≤ 31 * bound 4 → Outcome [] (linesOf text) begin (meaningOf text)
+unfolding meaningOf
+of-text text few = outcome (linesOf text) 0 0 [] [] begin begins (omega arith)
 
-  feed-action : (a : Action) (k : ℕ) (v : Move) → eqb m 0 ≡ false → read m a ≡ D.Accepted v → lineOf t ≡ L.Acts a k
-      → feedOf c t ≡ toPut (onLine c (counted (c .line))) a k
-  unfolding feedOf lineTaken actionTaken
-  feed-action a k v h r e =
-      let first : eqb (c .n) 0 ≡ false = rw (at .nodes) h in
-      let reads : read (c .n) a ≡ D.Accepted v = rw (at .nodes) r in
-      rw (at .going, left, e, first, reads)
+count-of : (text : List ℕ) → Sums (0 + actionsIn (linesOf text)) (meaningOf text)
+unfolding meaningOf
+count-of text = sums (linesOf text) 0 0 []
 
-for-nodes : {m n i : ℕ} {l : List Action} {c : Composer} → At m i l c → m ≡ n → At n i l c
-for-nodes at e = record { going = at .going; nodes = at .nodes ∙ e; blocks = at .blocks; count = at .count; size = at .size; holds = at .holds }
+-- a text that means n and l is composed to the file of l for n nodes: the writer takes l, the bytes are that file's, and the composer has no fault
+pub composes : (text : List ℕ) (n : ℕ) (l : List Action) → meaningOf text ≡ run n l → length l ≤ 31 * bound 4
+    → Taken n l × (composed text ≡ fileOf n l) × (ends text .stage ≡ Going)
+unfolding composed ends
+composes text n l h few =
+    let size = rw h at (count-of text) in
+    rw h at (of-text text (omega arith))
 
--- nothing to put
-none-put : (ts : List (List ℕ)) (k : ℕ) (d : Composer) → k ≡ 0 → putBytes k d ++ composedFrom ts (putTimes k d) ≡ composedFrom ts d
-none-put ts zero d e = refl
-none-put ts (suc k) d e = absurd (omega arith)
+-- the number shown for a line is its number, as far as 64 bits hold it
+shown-small : (i : ℕ) → i < 2 ^ 64 → lineShown i ≡ i
+shown-small zero h = refl
+shown-small (suc i) h = rw (shown-small i (omega arith), lt-ltb i 18446744073709551615 (omega arith)) (omega arith)
 
-no-rest : (acc rest : List Action) → acc ≡ acc ++ rest → rest ≡ []
-no-rest acc [] e = refl
-no-rest acc (a ∷ rest) e = absurd (let sizes = ap length e in let both = length-append acc (a ∷ rest) in omega arith)
-
-module _ (n : ℕ) (whole : List Action) (taken : Taken n whole) where
-  abbrev Lines-all : List (List ℕ) → Type 0
-  Lines-all ts =
-      (i m : ℕ) (acc : List Action) (j : ℕ) (l : List Action) (c : Composer) (rest : List Action)
-      → At m j l c → length l < 31 → c .left ≡ 0 → meaningFrom ts i m acc ≡ run n whole → whole ≡ acc ++ rest → drop (31 * j) whole ≡ l ++ rest
-      → composedFrom ts c ≡ blocksOf n j (l ++ rest)
-
-  one-line : (t : List ℕ) (ts : List (List ℕ)) → Lines-all ts → Lines-all (t ∷ ts)
-  one-line t ts next i m acc j l c rest at few left h all place = go (lineOn m acc (lineOf t)) refl h
-    where
-      by : (m2 : ℕ) (acc2 : List Action) → Step m acc (lineOf t) m2 acc2 → meaningFrom ts (suc i) m2 acc2 ≡ run n whole
-          → putBytes (feedOf c t .left) (feedOf c t) ++ composedFrom ts (putTimes (feedOf c t .left) (feedOf c t)) ≡ blocksOf n j (l ++ rest)
-      by m2 acc2 (blank-line x p q) h2 =
-          let d : Composer = onLine c (counted (c .line)) in
-          rw (feed-blank m j l c t at left x)
-          (none-put ts (c .left) d left
-          ∙ next (suc i) m acc j l d rest
-          (record { going = at .going; nodes = at .nodes; blocks = at .blocks; count = at .count; size = at .size; holds = at .holds })
-          few left (rw (sym p, sym q) at h2) all place)
-      by m2 acc2 (nodes-line x z s q) h2 =
-          let d : Composer = forNodes (onLine c (counted (c .line))) m2 in
-          rw (feed-nodes m j l c t at left m2 z s x)
-          (none-put ts (c .left) d left
-          ∙ next (suc i) m2 acc j l d rest
-          (record { going = at .going; nodes = refl; blocks = at .blocks; count = at .count; size = at .size; holds = at .holds })
-          few left (rw (sym q) at h2) all place)
-      by m2 acc2 (action-line a k v x z r p q) h2 =
-          let h3 : meaningFrom ts (suc i) m (acc ++ replicate k a) ≡ run n whole = rw (p, q) h2 in
-          let later = ends n whole ts (suc i) m (acc ++ replicate k a) h3 in
-          let same : m ≡ n = later .same z in
-          let d : Composer = toPut (onLine c (counted (c .line))) a k in
-          let whole-is : whole ≡ acc ++ (replicate k a ++ later .rest) = later .all ∙ append-assoc acc (replicate k a) (later .rest) in
-          let parts : rest ≡ replicate k a ++ later .rest
-          = sym (drop-append-seam acc rest) ∙ (ap (drop (length acc)) (sym all ∙ whole-is) ∙ drop-append-seam acc (replicate k a ++ later .rest)) in
-          let there : At n j l d = record {
-            going = at .going;
-            nodes = at .nodes ∙ same;
-            blocks = at .blocks;
-            count = at .count;
-            size = at .size;
-            holds = at .holds;
-          } in
-          let w = puts n whole taken k a (later .rest) j l d there few refl refl (rw parts at place) in
-          rw (feed-action m j l c t at left a k v z r x, parts)
-          (ap (λ (y : List ℕ). putBytes k d ++ y)
-          (next (suc i) m (acc ++ replicate k a) (w .block) (w .under) (putTimes k d) (later .rest) (for-nodes (w .at) (sym same)) (w .few) (w .idle) h3 (later .all) (w .place))
-          ∙ sym (w .file))
-
-      go : (s : Said) → lineOn m acc (lineOf t) ≡ s → afterLine (suc i) s (meaningFrom ts (suc i)) ≡ run n whole
-          → putBytes (feedOf c t .left) (feedOf c t) ++ composedFrom ts (putTimes (feedOf c t .left) (feedOf c t)) ≡ blocksOf n j (l ++ rest)
-      go (on m2 acc2) e q = by m2 acc2 (step-of m acc (lineOf t) m2 acc2 e) q
-      go (off f) e q = absurd (let z : _≡_ {A = ℕ} 0 1 = cc in omega arith)
-
-  lines : (ts : List (List ℕ)) → Lines-all ts
-  lines [] i m acc j l c rest at few left h all place =
-      let e = ended n whole i m acc h in
-      let none : rest ≡ [] = no-rest acc rest (e .2 ∙ all) in
-      let here : l ++ rest ≡ l = rw none (append-nil l) in
-      rw here (finish-held n whole taken j l c (for-nodes at (e .1)) few left (rw (e .1) at (e .0)) (place ∙ here))
-  lines (t ∷ ts) i m acc j l c rest at few left h all place = one-line t ts (lines ts) i m acc j l c rest at few left h all place
-
--- a text that means n and l, where the writer takes l for n nodes, is composed to exactly the bytes of their file
-pub composes : (text : List ℕ) (n : ℕ) (l : List Action) → meaningOf text ≡ run n l → Taken n l → composed text ≡ fileOf n l
-unfolding composed fileOf meaningOf
-composes text n l h taken =
-    lines n l taken (linesOf text) 0 0 [] 0 [] (startOf (replicate 496 0) blank) l
-    (record { going = refl; nodes = refl; blocks = refl; count = refl; size = refl; holds = refl }) (omega arith) refl h refl refl
+-- a text that is wrong leaves the composer stopped with that fault on that line
+pub stops : (text : List ℕ) (i : ℕ) (f : Fault) → meaningOf text ≡ wrong i f → actionsIn (linesOf text) ≤ 31 * bound 4 → i < 2 ^ 64
+    → (ends text .stage ≡ Stopped f) × (ends text .line ≡ i)
+unfolding ends
+stops text i f h few small =
+    let o = rw h at (of-text text few) in
+    (o .0, o .1 ∙ shown-small i small)

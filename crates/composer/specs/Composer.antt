@@ -3,7 +3,7 @@ use mathlib.Core.Bool.{Bool, true, false, cond, not}
 use mathlib.Core.List.{List}
 use Prim.Native.Nat.{ℕ, _+_, _*_, _-_}
 use lib.Dec.{eqb, ltb}
-use lib.ListN.{length, take}
+use lib.ListN.{take}
 use Rattle.charts.specs.Numbers as N
 use Rattle.charts.specs.Valid.{isSize}
 use Rattle.charts.specs.Records.{read}

@@ -1,11 +1,10 @@
 // Composes a run file from the lines of a text, one block at a time.
 ghost use mathlib.Core.Path.{_≡_};
-ghost use mathlib.Core.Bool.{true};
-ghost use Prim.Native.Nat.{_+_, _≤_};
+ghost use Prim.Native.Nat.{_≤_};
 ghost use lib.ListN.{replicate};
 ghost use Rattle.charts.specs.Valid.{isSize};
 ghost use Rattle.record.specs.Layout.{blank};
-ghost use Rattle.composer.specs.Composer.{isStopped, stopped, onLine, forNodes, toPut, counted, nodesTaken, actionTaken, lineTaken, feedOf};
+ghost use Rattle.composer.specs.Composer.{isStopped, stopped, onLine, toPut, counted, nodesTaken, actionTaken, lineTaken, feedOf};
 ghost use Rattle.composer.specs.Composer.{withBlock, flushOf, heldAfter, putOf, putHeld, usedBy, finishOf, finishHeld, startOf};
 use charts::Action;
 use charts::Decoded;

@@ -1,13 +1,11 @@
 -- A cursor in a line: the words from there on.
-use mathlib.Core.Path.{_≡_}
-use mathlib.Core.Bool.{false}
 use mathlib.Core.List.{List, [], _∷_}
-use Prim.Native.Nat.{ℕ, _<_}
-use lib.ListN.{length, drop, getD}
+use Prim.Native.Nat.{ℕ}
+use lib.ListN.{drop}
 use Rattle.notation.specs.declared.words.Token.{Token}
 use Rattle.notation.specs.declared.words.Step.{Step}
 use Rattle.notation.specs.declared.words.Step.the-variants.{End, Read}
-use Rattle.notation.specs.Words.{isBlank, tokensOf}
+use Rattle.notation.specs.Words.{tokensOf}
 
 -- the words from a place on
 abbrev pub tokensLeft : List ℕ → ℕ → List Token

@@ -1,6 +1,5 @@
 // The productions of a line. Each reads on from a cursor.
 ghost use mathlib.Core.Path.{_≡_};
-ghost use Prim.Native.Nat.{_≤_};
 ghost use Rattle.charts.specs.Records.{isKind};
 ghost use Rattle.notation.specs.Words.{tokensOf};
 ghost use Rattle.notation.specs.Cursors.{tokensLeft};

@@ -1,4 +1,4 @@
-// Runs in plain words: the lines that people write, read.
+// Runs in plain words: what each line says that people write.
 mod grammar;
 mod words;
 

@@ -1,8 +1,6 @@
 // An action's line and a fault's line put into a buffer from a place on. Each function answers the place after what it put.
-ghost use mathlib.Core.Path.{_≡_};
-ghost use mathlib.Core.Bool.{cond};
 ghost use mathlib.Core.List.{[], _∷_, _++_};
-ghost use Prim.Native.Nat.{_+_, _≤_, _<_};
+ghost use Prim.Native.Nat.{_+_, _≤_};
 ghost use lib.ListN.{length};
 ghost use Rattle.transcript.specs.Text.{ascii, decimal};
 ghost use Rattle.transcript.specs.Lines.{line};

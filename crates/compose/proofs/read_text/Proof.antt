@@ -6,10 +6,10 @@ use Rattle.compose.proofs.read_text.Statement.{statement}
 use Rattle.compose.proofs.read_text.Tie as tie
 
 abbrev Inv-loop : tie.InvT-loop
-Inv-loop line₀ r₀ turns₀ line r turns = (r .len ≤ length line) × (length line ≡ length line₀)
+Inv-loop line₀ out₀ r₀ turns₀ line out r turns = (r .len ≤ length line) × (r .held ≤ 16384) × (length line ≡ length line₀)
 
 abbrev μ-loop : tie.MeasureT-loop
-μ-loop line₀ r₀ turns₀ line r turns = turns
+μ-loop line₀ out₀ r₀ turns₀ line out r turns = turns
 
 start-requires : tie.Need-start-requires Inv-loop μ-loop
 start-requires c κs = search needs

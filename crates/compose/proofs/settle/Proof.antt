@@ -1,31 +1,31 @@
-use native.Mathlib.Omega.{arith}
+use Prim.Native.Nat.{_≤_}
 use borrow.Author.Needs.{needs}
 use Rattle.compose.proofs.settle.Statement.{statement}
 use Rattle.compose.proofs.settle.Tie as tie
 
 abbrev Inv-loop : tie.InvT-loop
-Inv-loop d₀ block₀ left₀ d block left = Unit {0}
+Inv-loop out₀ held d₀ block₀ k₀ left₀ out d block k left = k ≤ 16384
 
 abbrev μ-loop : tie.MeasureT-loop
-μ-loop d₀ block₀ left₀ d block left = left
+μ-loop out₀ held d₀ block₀ k₀ left₀ out d block k left = left
 
 loop-holds : tie.Need-loop-holds Inv-loop μ-loop
-loop-holds c = tt
+loop-holds c = search needs
 
 put-requires : tie.Need-put-requires Inv-loop μ-loop
 put-requires c κs = search needs
 
-write-block-requires : tie.Need-write-block-requires Inv-loop μ-loop
-write-block-requires c κs = search needs
+hold-requires : tie.Need-hold-requires Inv-loop μ-loop
+hold-requires c κs = search needs
 
 sub-left : tie.Need-sub-left Inv-loop μ-loop
-sub-left c = omega arith
+sub-left c = search needs
 
 loop-less : tie.Need-loop-less Inv-loop μ-loop
-loop-less c = omega arith
+loop-less c = search needs
 
 loop-again : tie.Need-loop-again Inv-loop μ-loop
-loop-again c = tt
+loop-again c = search needs
 
 returns : tie.Need-returns Inv-loop μ-loop
 returns c = search needs
@@ -38,7 +38,7 @@ settle-spec =
     μ-loop
     loop-holds
     put-requires
-    write-block-requires
+    hold-requires
     sub-left
     loop-less
     loop-again

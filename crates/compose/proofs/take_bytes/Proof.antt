@@ -6,10 +6,10 @@ use Rattle.compose.proofs.take_bytes.Statement.{statement}
 use Rattle.compose.proofs.take_bytes.Tie as tie
 
 abbrev Inv-loop : tie.InvT-loop
-Inv-loop line₀ len bytes d₀ k₀ i₀ line d k i = (k ≤ length line) × (i ≤ length bytes) × (length line ≡ length line₀)
+Inv-loop line₀ out₀ bytes s₀ i₀ line out s i = (s .len ≤ length line) × (s .held ≤ 16384) × (i ≤ length bytes) × (length line ≡ length line₀)
 
 abbrev μ-loop : tie.MeasureT-loop
-μ-loop line₀ len bytes d₀ k₀ i₀ line d k i = length bytes - i
+μ-loop line₀ out₀ bytes s₀ i₀ line out s i = length bytes - i
 
 loop-holds : tie.Need-loop-holds Inv-loop μ-loop
 loop-holds c = search needs
