@@ -3,28 +3,34 @@ use mathlib.Core.Path.{_≡_, refl, sym, _∙_}
 use mathlib.Core.Bool.{Bool, true, false, cond}
 use mathlib.Core.List.{List, [], _∷_}
 use Prim.Native.Nat.{ℕ, suc}
+use native.Mathlib.Omega.{arith}
 use Rattle.charts.specs.declared.Action.{Action}
-use Rattle.charts.proofs.Tools.{never}
-use Rattle.runfile.specs.declared.BlockHead.the-variants.{Holds}
+use Rattle.runfile.specs.declared.BlockHead.{BlockHead}
+use Rattle.runfile.specs.declared.BlockHead.the-variants.{Holds, Refused}
 use Rattle.runfile.specs.declared.order.Stage.{Stage}
 use Rattle.runfile.specs.declared.order.Stage.the-variants.{Unopened, After, Ended}
 use Rattle.runfile.specs.Block.{headOf}
-use Rattle.runfile.specs.Order.{isEnded, lookOf}
+use Rattle.runfile.specs.Order.{lookOf}
 use Rattle.runfile.proofs.Stages.{before, same-look, Passed, passed, next}
 use Rattle.transcript.specs.Lines.{refusedLine}
+use Rattle.walk.specs.declared.Found.the-variants.{Block}
 use Rattle.walk.specs.Walk.{isTaken}
-use Rattle.walk.specs.Feeding.{openingOf, Part, lineThen, partOf}
+use Rattle.walk.specs.Feeding.{openingOf, foundBy, foundIn, Part, lineThen, partOf}
 use Rattle.listing.specs.Listed.{turn, naming}
 
--- a block that is taken has block 0's n
-pub opens : (g : Stage) (m : ℕ) (s : List ℕ) (number count n : ℕ) → isEnded g ≡ false → lookOf g m s ≡ Holds number count n → openingOf naming g n m ≡ n
-unfolding lookOf
-opens Unopened m s number count n k h = refl
-opens (After i c) m s number count n k h =
-    let looked = sym (same-look (After i c) m s (headOf s) k) ∙ h in
+-- a block that is found has block 0's n
+holds : (h : BlockHead) (number count n : ℕ) → foundBy h ≡ Block number count n → h ≡ Holds number count n
+holds (Holds i c m) number count n e = cc
+holds (Refused k) number count n e = let z : _≡_ {A = ℕ} 0 1 = cc in absurd (omega arith)
+
+pub opens : (g : Stage) (m : ℕ) (s : List ℕ) (number count n : ℕ) → foundIn g m s ≡ Block number count n → openingOf naming g n m ≡ n
+unfolding foundIn lookOf
+opens Unopened m s number count n f = refl
+opens (After i c) m s number count n f =
+    let looked = sym (same-look (After i c) m s (headOf s) refl) ∙ holds _ number count n f in
     let pass : Passed (before (After i c) m) (Holds number count n) = rw looked at (passed (before (After i c) m) s) in
     sym (next i c m number n (pass .0) .same-n)
-opens Ended m s number count n k h = never (sym k)
+opens Ended m s number count n f = let z : _≡_ {A = ℕ} 0 1 = cc in absurd (omega arith)
 
 -- its actions leave n as it was
 one-n : (b : Bool) (t refused : List ℕ) (p : Part ℕ) (n : ℕ) → p .state ≡ n → cond b (lineThen t p) (record { text = refused; state = n; ended = true }) .state ≡ n

@@ -70,4 +70,4 @@ text-means n [] t = absurd (omega (arith, t .some))
 text-means n (a ∷ l) t = text-back n a l (t .nodes) (accepted-by n (a ∷ l) (t .fits) (t .accepted))
 
 pub lists-back : (n : ℕ) (l : List Action) → Taken n l → composed (listed (fileOf n l)) ≡ fileOf n l
-lists-back n l t = rw (listed-text n l t) (composes (textOf n l) n l (text-means n l t) t)
+lists-back n l t = rw (listed-text n l t) (composes (textOf n l) n l (text-means n l t) (t .numbered) .1)

@@ -8,9 +8,9 @@ ghost use Rattle.transcript.specs.Room.{put};
 ghost use Rattle.runfile.specs.Order.{isEnded};
 ghost use Rattle.walk.specs.Feeding.{feedOf, finishOf};
 ghost use Rattle.listing.specs.Listed.{naming, seen, started};
-use runfile::BlockHead;
 use runfile::order;
 use runfile::order::Stage;
+use walk::Found;
 
 const WRONG_LENGTH: u8 = 8;
 
@@ -46,28 +46,19 @@ pub fn feed(l: Listing, piece: &[u8], out: &mut [u8; 2048]) -> Fed
     ensures { λ r. ⌜ r .ended ≡ isEnded (r .listing .stage) ⌝ }
 {
     let stage = l.stage;
-    let m = l.n;
-    if order::is_ended(stage) {
-        return Fed {
-            listing: l,
-            end: 0,
-            ended: true,
-        };
-    }
-    let head = order::look(stage, m, piece);
-    let BlockHead::Holds { number, count, n } = head else {
-        let end = transcript::put_refused(out, 0, order::accepted_by(stage), order::refusal(head));
+    let entered = walk::enter(stage, l.n, piece, out);
+    let found = entered.found;
+    let Found::Block { number, count, n } = found else {
         return Fed {
             listing: Listing {
-                n: m,
+                n: l.n,
                 stage: Stage::Ended,
             },
-            end: end,
+            end: entered.end,
             ended: true,
         };
     };
-    let at = walk::put_heading(stage, n, out);
-    let part = block::put_actions(n, piece, count, order::accepted_by(stage), out, at);
+    let part = block::put_actions(n, piece, count, order::accepted_by(stage), out, entered.end);
     Fed {
         listing: Listing {
             n: n,

@@ -9,9 +9,9 @@ ghost use Rattle.runfile.specs.Order.{isEnded};
 ghost use Rattle.walk.specs.Feeding.{feedOf, finishOf};
 ghost use Rattle.player.specs.Feeding.{seen, advancing, started};
 use charts::Bus;
-use runfile::BlockHead;
 use runfile::order;
 use runfile::order::Stage;
+use walk::Found;
 
 const WRONG_LENGTH: u8 = 8;
 
@@ -50,33 +50,25 @@ pub fn feed(p: Player, piece: &[u8], out: &mut [u8; 2048]) -> Fed
 {
     let stage = p.stage;
     let bus = p.bus;
-    if order::is_ended(stage) {
-        return Fed {
-            player: p,
-            end: 0,
-            ended: true,
-        };
-    }
-    let head = order::look(stage, bus.n, piece);
-    let BlockHead::Holds { number, count, n } = head else {
-        let end = transcript::put_refused(out, 0, order::accepted_by(stage), order::refusal(head));
+    let entered = walk::enter(stage, bus.n, piece, out);
+    let found = entered.found;
+    let Found::Block { number, count, n } = found else {
         return Fed {
             player: Player {
                 bus: bus,
                 stage: Stage::Ended,
             },
-            end: end,
+            end: entered.end,
             ended: true,
         };
     };
-    let at = walk::put_heading(stage, n, out);
     let part = block::play_actions(
         block::opening(stage, bus, n),
         piece,
         count,
         order::accepted_by(stage),
         out,
-        at,
+        entered.end,
     );
     let after = part.bus;
     Fed {

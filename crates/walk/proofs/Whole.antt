@@ -19,7 +19,7 @@ use Rattle.runfile.specs.Pieces.{pieces, Before, none, follows, lookedAt, actio
 use Rattle.runfile.proofs.Stages.{before, same-look, Passed, passed, next, counted}
 use Rattle.transcript.specs.Lines.{refusedLine}
 use Rattle.walk.specs.Walk.{Turn, isTaken, Walker, walking, headed, opened, blockWalked, walkedFrom, walked}
-use Rattle.walk.specs.Feeding.{Walking, headingOf, openingOf, Part, lineThen, turnOf, partOf, partGives, blockGives, feedOf, finishOf, fedText}
+use Rattle.walk.specs.Feeding.{Walking, headingOf, openingOf, foundBy, textBy, foundIn, foundText, Part, lineThen, partOf, foundGives, feedOf, finishOf, fedText}
 
 -- a walk v that does what w does, in every state that some block 0 and the actions after it can lead to
 pub record Does {S : Type 0} (Good : S → Type 0) (w v : Walker S) : Type 0 where
@@ -75,7 +75,7 @@ module _ {S : Type 0} {Good : S → Type 0} {w v : Walker S} (does : Does Good w
 
   -- after a refusal nothing is printed
   silent : (l : List (List ℕ)) (s : S) → fedText v l (record { state = s; stage = Ended }) ≡ []
-  unfolding feedOf finishOf
+  unfolding feedOf foundIn foundText finishOf
   silent [] s = refl
   silent (b ∷ l) s = silent l s
 
@@ -116,7 +116,7 @@ module _ {S : Type 0} {Good : S → Type 0} {w v : Walker S} (does : Does Good w
         by-end false = rw (← e, ← f) (rest (After number count) (p .state) refl good)
 
     block : (g : Stage) (s : S) (b : List ℕ) (h : BlockHead) → isEnded g ≡ false → Fine g s → Passed (before g (v .nodes s)) h
-        → blockGives v g s b h .text ++ fedText v l (blockGives v g s b h .after) ≡ blockWalked w b (before g (v .nodes s)) s (acceptedBy g) h (walkedFrom w l)
+        → foundGives v g s b (textBy g h) (foundBy h) .text ++ fedText v l (foundGives v g s b (textBy g h) (foundBy h) .after) ≡ blockWalked w b (before g (v .nodes s)) s (acceptedBy g) h (walkedFrom w l)
     block g s b (Refused j) k good z = rw (silent l s) (append-nil _)
     block g s b (Holds number count n) k good z =
         let acts = actionsIn count b in
@@ -134,7 +134,7 @@ module _ {S : Type 0} {Good : S → Type 0} {w v : Walker S} (does : Does Good w
         (ap (λ (t : List ℕ). p .text ++ t) follow ∙ sym (played acts (openingOf v g n s) (acceptedBy g) (walkedFrom w l later) (o .opens-good))))
 
   fed : (l : List (List ℕ)) (g : Stage) (s : S) → isEnded g ≡ false → Fine g s → fedText v l (record { state = s; stage = g }) ≡ walkedFrom w l (before g (v .nodes s)) s (acceptedBy g)
-  unfolding feedOf lookOf finishOf
+  unfolding feedOf foundIn foundText lookOf finishOf
   fed [] Unopened s k good = refl
   fed [] (After i c) s k good = rw (eqb·suc-zero i) (does .same-done _)
   fed [] Ended s k good = never (sym k)

@@ -1,7 +1,9 @@
 -- A walk piece by piece: what a piece of a file gives, and the file's end.
+use mathlib.Core.Path.{_≡_}
 use mathlib.Core.Bool.{Bool, true, false, cond}
 use mathlib.Core.List.{List, [], _∷_, _++_}
-use Prim.Native.Nat.{ℕ, suc}
+use Prim.Native.Nat.{ℕ, suc, _≤_}
+use lib.ListN.{length}
 use Rattle.charts.specs.declared.Action.{Action}
 use Rattle.charts.specs.Numbers as N
 use Rattle.runfile.specs.declared.BlockHead.{BlockHead}
@@ -11,6 +13,8 @@ use Rattle.runfile.specs.declared.order.Stage.the-variants.{Unopened, After, En
 use Rattle.runfile.specs.Order.{isEnded, acceptedBy, lookOf, stageAfter}
 use Rattle.runfile.specs.Pieces.{actionsIn}
 use Rattle.transcript.specs.Lines.{nodesLine, refusedLine}
+use Rattle.walk.specs.declared.Found.{Found}
+use Rattle.walk.specs.declared.Found.the-variants.{Nothing, Block}
 use Rattle.walk.specs.Walk.{Turn, isTaken, Walker}
 
 -- a walk between two pieces
@@ -28,6 +32,26 @@ abbrev pub openingOf : {S : Type 0} → Walker S → Stage → ℕ → S → S
 openingOf w Unopened n s = w .opening n
 openingOf w (After i c) n s = s
 openingOf w Ended n s = s
+
+-- what is found in a piece of a file, and what is printed before its actions; "A refusal […] ends the output": after one nothing is found
+abbrev pub foundBy : BlockHead → Found
+foundBy (Refused k) = Nothing
+foundBy (Holds number count n) = Block number count n
+
+abbrev pub textBy : Stage → BlockHead → List ℕ
+textBy g (Refused k) = refusedLine (acceptedBy g) k
+textBy g (Holds number count n) = headingOf g n
+
+unfoldable pub foundIn : Stage → ℕ → List ℕ → Found
+foundIn g m piece = cond (isEnded g) Nothing (foundBy (lookOf g m piece))
+
+unfoldable pub foundText : Stage → ℕ → List ℕ → List ℕ
+foundText g m piece = cond (isEnded g) [] (textBy g (lookOf g m piece))
+
+-- a block that was found is 512 bytes, with at most 31 actions
+abbrev pub foundFits : List ℕ → Found → Type 0
+foundFits piece Nothing = Unit {0}
+foundFits piece (Block number count n) = (length piece ≡ 512) × (count ≤ 31)
 
 -- what the actions of a block give: their text, the state after them, and whether one of them was refused
 pub record Part (S : Type 0) : Type 0 where
@@ -56,17 +80,14 @@ abbrev pub partGives : {S : Type 0} → List ℕ → ℕ → ℕ → Part S → 
 partGives t number count p =
     record { text = t ++ p .text; after = record { state = p .state; stage = stageAfter (p .ended) number count } }
 
-abbrev pub blockGives : {S : Type 0} → Walker S → Stage → S → List ℕ → BlockHead → Gives S
-blockGives w g s piece (Refused k) =
-    record { text = refusedLine (acceptedBy g) k; after = record { state = s; stage = Ended } }
-blockGives w g s piece (Holds number count n) =
-    partGives (headingOf g n) number count (partOf w (actionsIn count piece) (openingOf w g n s) (acceptedBy g))
+abbrev pub foundGives : {S : Type 0} → Walker S → Stage → S → List ℕ → List ℕ → Found → Gives S
+foundGives w g s piece t Nothing = record { text = t; after = record { state = s; stage = Ended } }
+foundGives w g s piece t (Block number count n) =
+    partGives t number count (partOf w (actionsIn count piece) (openingOf w g n s) (acceptedBy g))
 
--- a walk that a refusal has ended prints nothing more
 unfoldable pub feedOf : {S : Type 0} → Walker S → Walking S → List ℕ → Gives S
 feedOf w p piece =
-    cond (isEnded (p .stage)) (record { text = []; after = p })
-    (blockGives w (p .stage) (p .state) piece (lookOf (p .stage) (w .nodes (p .state)) piece))
+    foundGives w (p .stage) (p .state) piece (foundText (p .stage) (w .nodes (p .state)) piece) (foundIn (p .stage) (w .nodes (p .state)) piece)
 
 -- the text at the file's end; "an empty file" is 8
 unfoldable pub finishOf : {S : Type 0} → Walker S → Stage → List ℕ
