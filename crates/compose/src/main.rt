@@ -19,44 +19,21 @@ struct Reading {
     more: bool,
 }
 
-fn store(out: &mut [u8], at: usize, block: &[u8])
-    requires { ⌜ at + length (now block) ≤ length (now out) ⌝ }
-{
-    let mut i: usize = 0;
-    while i < block.len() {
-        out[at + i] = block[i];
-        i += 1;
-    }
+// How many bytes of a block are written.
+fn size_of(written: bool) -> usize {
+    if written { 512 } else { 0 }
 }
 
-fn write_held(out: &[u8], held: usize)
-    requires { ⌜ held ≤ length (now out) ⌝ }
+// A written block waits in the output buffer after those before it.
+fn hold(out: &mut [u8], held: usize, block: &[u8; 512], written: bool) -> usize
+    ensures { λ r. ⌜ r ≤ length (now (out .exit)) ⌝ }
 {
-    io::write_all(STDOUT_FILENO, &out[..held]);
-}
-
-// A written block waits after the `held` bytes of blocks before it, so that 32 of them go out at a time.
-fn hold(out: &mut [u8; 16384], held: usize, block: &[u8; 512], written: bool) -> usize
-    requires { ⌜ held ≤ 16384 ⌝ }
-    ensures { λ r. ⌜ r ≤ 16384 ⌝ }
-{
-    if !written {
-        return held;
-    }
-    if 15872 < held {
-        write_held(out, held);
-        store(out, 0, block);
-        return 512;
-    }
-    store(out, held, block);
-    held + 512
+    stream::collect(out, held, block, size_of(written))
 }
 
 // Puts the action under way as often as the line said. The line is then done.
-fn settle(c: Composer, out: &mut [u8; 16384], held: usize) -> Reading
-    requires { ⌜ held ≤ 16384 ⌝ }
+fn settle(c: Composer, out: &mut [u8], held: usize) -> Reading
     ensures { λ r. ⌜ r .len ≡ 0 ⌝ }
-    ensures { λ r. ⌜ r .held ≤ 16384 ⌝ }
 {
     let mut d = c;
     let mut block = [0u8; 512];
@@ -88,22 +65,18 @@ fn push(line: &mut [u8], len: usize, b: u8) -> usize
     len
 }
 
-fn end_line(r: Reading, line: &[u8], out: &mut [u8; 16384]) -> Reading
+fn end_line(r: Reading, line: &[u8], out: &mut [u8]) -> Reading
     requires { ⌜ r .len ≤ length (now line) ⌝ }
-    requires { ⌜ r .held ≤ 16384 ⌝ }
     ensures { λ s. ⌜ s .len ≡ 0 ⌝ }
-    ensures { λ s. ⌜ s .held ≤ 16384 ⌝ }
 {
     let c = r.composer;
     settle(composer::feed(c, &line[..r.len]), out, r.held)
 }
 
 // Takes the bytes of a part of the text.
-fn take_bytes(r: Reading, line: &mut [u8], out: &mut [u8; 16384], bytes: &[u8]) -> Reading
+fn take_bytes(r: Reading, line: &mut [u8], out: &mut [u8], bytes: &[u8]) -> Reading
     requires { ⌜ r .len ≤ length (now line) ⌝ }
-    requires { ⌜ r .held ≤ 16384 ⌝ }
     ensures { λ s. ⌜ s .len ≤ length (now (line .exit)) ⌝ }
-    ensures { λ s. ⌜ s .held ≤ 16384 ⌝ }
 {
     let mut s = r;
     let mut i: usize = 0;
@@ -120,11 +93,9 @@ fn take_bytes(r: Reading, line: &mut [u8], out: &mut [u8; 16384], bytes: &[u8]) 
 }
 
 // Takes what one read of the input gives, and answers whether more may follow.
-fn read_some(r: Reading, line: &mut [u8], out: &mut [u8; 16384]) -> Reading
+fn read_some(r: Reading, line: &mut [u8], out: &mut [u8]) -> Reading
     requires { ⌜ r .len ≤ length (now line) ⌝ }
-    requires { ⌜ r .held ≤ 16384 ⌝ }
     ensures { λ s. ⌜ s .len ≤ length (now (line .exit)) ⌝ }
-    ensures { λ s. ⌜ s .held ≤ 16384 ⌝ }
 {
     let mut buf = io::large_buffer();
     let n = io::read_full(STDIN_FILENO, &mut buf);
@@ -140,9 +111,8 @@ fn read_some(r: Reading, line: &mut [u8], out: &mut [u8; 16384]) -> Reading
 }
 
 // The whole text. A proved loop has to end, so it counts its turns down from a number that no text uses up.
-fn read_text(line: &mut [u8], out: &mut [u8; 16384]) -> Reading
+fn read_text(line: &mut [u8], out: &mut [u8]) -> Reading
     ensures { λ r. ⌜ r .len ≤ length (now (line .exit)) ⌝ }
-    ensures { λ r. ⌜ r .held ≤ 16384 ⌝ }
 {
     let mut r = Reading {
         composer: composer::start(),
@@ -162,10 +132,8 @@ fn read_text(line: &mut [u8], out: &mut [u8; 16384]) -> Reading
 }
 
 // A text may end without a newline.
-fn last_line(r: Reading, line: &[u8], out: &mut [u8; 16384]) -> Reading
+fn last_line(r: Reading, line: &[u8], out: &mut [u8]) -> Reading
     requires { ⌜ r .len ≤ length (now line) ⌝ }
-    requires { ⌜ r .held ≤ 16384 ⌝ }
-    ensures { λ s. ⌜ s .held ≤ 16384 ⌝ }
 {
     if r.len == 0 {
         return r;
@@ -189,26 +157,18 @@ fn report_fault(line: u64, fault: Fault, text: &mut [u8])
     io::write_all(STDERR_FILENO, &text[..n]);
 }
 
-fn write_block(block: &[u8; 512]) {
-    io::write_all(STDOUT_FILENO, block);
-}
-
 // Writes the blocks that wait and the last one, or says what is wrong.
-fn end(r: Reading, out: &[u8; 16384])
-    requires { ⌜ r .held ≤ 16384 ⌝ }
-{
-    write_held(out, r.held);
+fn end(r: Reading, out: &mut [u8]) {
     let mut block = [0u8; 512];
     let c = r.composer;
     let w = composer::finish(c, &mut block);
-    if w.written {
-        write_block(&block);
-    }
+    let held = hold(out, r.held, &block, w.written);
+    io::write_all(STDOUT_FILENO, &out[..held]);
     let d = w.composer;
     report(d);
 }
 
-fn compose(line: &mut [u8], out: &mut [u8; 16384]) {
+fn compose(line: &mut [u8], out: &mut [u8]) {
     let r = read_text(line, out);
     end(last_line(r, line, out), out);
 }
@@ -216,6 +176,6 @@ fn compose(line: &mut [u8], out: &mut [u8; 16384]) {
 fn main() {
     // The longest line is 255 bytes; a byte more shows that a line is longer.
     let mut line = [0u8; 256];
-    let mut out = [0u8; 16384];
+    let mut out = io::large_buffer();
     compose(&mut line, &mut out);
 }

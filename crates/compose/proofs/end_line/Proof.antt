@@ -1,4 +1,5 @@
 use mathlib.Core.Path.{sym}
+use lib.ListN.{length}
 use lib.Seq.{length-take-le}
 use borrow.Author.Needs.{needs}
 use Rattle.compose.proofs.end_line.Statement.{statement}
@@ -13,8 +14,12 @@ feed-requires c κs = search needs
 settle-requires : tie.Need-settle-requires
 settle-requires c κs = search needs
 
+same-length : tie.Need-same-length
+same-length c = search needs
+
 returns : tie.Need-returns
 returns c = search needs
 
 pub end-line-spec : {M : Type 1} → statement M
-end-line-spec = tie.close (tie.spec slice-aggregate-feed feed-requires settle-requires returns)
+end-line-spec =
+    tie.close (tie.spec slice-aggregate-feed feed-requires settle-requires same-length returns)

@@ -1,10 +1,11 @@
-use Prim.Native.Nat.{_≤_}
+use mathlib.Core.Path.{_≡_}
+use lib.ListN.{length}
 use borrow.Author.Needs.{needs}
 use Rattle.compose.proofs.settle.Statement.{statement}
 use Rattle.compose.proofs.settle.Tie as tie
 
 abbrev Inv-loop : tie.InvT-loop
-Inv-loop out₀ held d₀ block₀ k₀ left₀ out d block k left = k ≤ 16384
+Inv-loop out₀ held d₀ block₀ k₀ left₀ out d block k left = length out ≡ length out₀
 
 abbrev μ-loop : tie.MeasureT-loop
 μ-loop out₀ held d₀ block₀ k₀ left₀ out d block k left = left
@@ -27,6 +28,9 @@ loop-less c = search needs
 loop-again : tie.Need-loop-again Inv-loop μ-loop
 loop-again c = search needs
 
+same-length : tie.Need-same-length Inv-loop μ-loop
+same-length c = search needs
+
 returns : tie.Need-returns Inv-loop μ-loop
 returns c = search needs
 
@@ -42,4 +46,5 @@ settle-spec =
     sub-left
     loop-less
     loop-again
+    same-length
     returns)

@@ -1,12 +1,12 @@
-use lib.ListN.{length}
 use mathlib.Core.Path.{_≡_}
 use Prim.Native.Nat.{_≤_, _-_}
+use lib.ListN.{length}
 use borrow.Author.Needs.{needs}
 use Rattle.compose.proofs.take_bytes.Statement.{statement}
 use Rattle.compose.proofs.take_bytes.Tie as tie
 
 abbrev Inv-loop : tie.InvT-loop
-Inv-loop line₀ out₀ bytes s₀ i₀ line out s i = (s .len ≤ length line) × (s .held ≤ 16384) × (i ≤ length bytes) × (length line ≡ length line₀)
+Inv-loop line₀ out₀ bytes s₀ i₀ line out s i = (s .len ≤ length line) × (i ≤ length bytes) × (length line ≡ length line₀) × (length out ≡ length out₀)
 
 abbrev μ-loop : tie.MeasureT-loop
 μ-loop line₀ out₀ bytes s₀ i₀ line out s i = length bytes - i
@@ -41,6 +41,9 @@ loop-again-2 c = search needs
 same-length : tie.Need-same-length Inv-loop μ-loop
 same-length c = search needs
 
+same-length-2 : tie.Need-same-length-2 Inv-loop μ-loop
+same-length-2 c = search needs
+
 returns : tie.Need-returns Inv-loop μ-loop
 returns c = search needs
 
@@ -60,4 +63,5 @@ take-bytes-spec =
     loop-less-2
     loop-again-2
     same-length
+    same-length-2
     returns)
