@@ -1,9 +1,8 @@
 -- What is listed of a file. Assumes nothing.
-use mathlib.Core.Path.{_≡_, refl, ap, sym, _∙_}
-use mathlib.Core.List.{List, [], _∷_, _++_}
-use Prim.Native.Nat.{ℕ, zero, suc, _≤_}
+use mathlib.Core.Path.{_≡_, refl, _∙_}
+use mathlib.Core.List.{List, [], _∷_}
+use Prim.Native.Nat.{ℕ, suc}
 use native.Mathlib.Omega.{arith}
-use lib.ListN.{length}
 use Rattle.charts.specs.Numbers as N
 use Rattle.charts.specs.Records.{read}
 use Rattle.charts.specs.declared.Action.{Action}
@@ -13,11 +12,11 @@ use Rattle.runfile.specs.Pieces.{pieces}
 use Rattle.runfile.specs.Write.{refusedOr, firstRefusal}
 use Rattle.runfile.specs.File.{AllFit, fileOf, IsFile, Taken}
 use Rattle.runfile.proofs.Files.{never-zero, one-file}
-use Rattle.notation.specs.Meaning.{actionLines, textOf, run, meaningOf, Accepts, AllAccepted}
+use Rattle.notation.specs.Meaning.{actionLines, textOf, run, meaningOf, AllAccepted}
 use Rattle.notation.proofs.Texts.{text-back}
 use Rattle.composer.specs.Composed.{composed}
 use Rattle.composer.proofs.Whole.{composes}
-use Rattle.walk.specs.Walk.{walking, listWalked}
+use Rattle.walk.specs.Walk.{walking}
 use Rattle.walk.specs.Feeding.{fedText}
 use Rattle.walk.proofs.Whole as W
 use Rattle.walk.proofs.Files.{file-walked}

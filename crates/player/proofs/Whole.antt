@@ -6,7 +6,6 @@ use Prim.Native.Nat.{ℕ}
 use borrow.Author.Tests.{ltb-true}
 use lib.Dec.{ltb}
 use Rattle.charts.specs.State.{State, fresh}
-use Rattle.charts.specs.Step.{Result}
 use Rattle.charts.specs.Valid.{isSize, valid}
 use Rattle.charts.proofs.Steps.{step-n}
 use Rattle.charts.proofs.Tools.{and-true}

@@ -1,10 +1,8 @@
 // One block of a file: the bus that its actions find, and the actions played.
 ghost use mathlib.Core.Path.{_≡_};
-ghost use mathlib.Core.List.{_∷_, []};
 ghost use Prim.Native.Nat.{_+_, _*_, _≤_};
 ghost use lib.ListN.{length};
 ghost use Rattle.charts.specs.View.{view};
-ghost use Rattle.transcript.specs.Room.{Puts};
 ghost use Rattle.walk.specs.Feeding.{openingOf};
 ghost use Rattle.player.specs.Feeding.{advancing, partOf, Plays};
 ghost use Rattle.player.specs.Printed.{actionsIn};

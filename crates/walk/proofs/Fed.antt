@@ -1,7 +1,7 @@
 -- The two ways of a piece: nothing is found in it, or a block, and its actions have their turns. Assumes nothing.
 use mathlib.Core.Path.{_≡_, refl, _∙_}
 use mathlib.Core.List.{List}
-use Prim.Native.Nat.{ℕ, _+_}
+use Prim.Native.Nat.{ℕ}
 use native.Mathlib.Nat.{zero-add}
 use lib.ListN.{length}
 use Rattle.runfile.specs.declared.order.Stage.{Stage}
@@ -12,7 +12,7 @@ use Rattle.transcript.specs.Room.{put, Puts}
 use Rattle.transcript.proofs.Puts.{and-then}
 use Rattle.walk.specs.declared.Found.the-variants.{Nothing, Block}
 use Rattle.walk.specs.Walk.{Walker}
-use Rattle.walk.specs.Feeding.{Walking, openingOf, foundIn, foundText, Part, partOf, Gives, feedOf}
+use Rattle.walk.specs.Feeding.{Walking, openingOf, foundIn, foundText, partOf, Gives, feedOf}
 
 -- what a feeding function says of its answer: the text's length, the buffer, the walk
 abbrev pub Fed : {S : Type 0} → Gives S → List ℕ → ℕ → List ℕ → Walking S → Type 0

@@ -18,8 +18,8 @@ use Rattle.runfile.specs.Order.{isEnded, acceptedBy, lookOf, stageAfter}
 use Rattle.runfile.specs.Pieces.{pieces, Before, none, follows, lookedAt, actionsIn}
 use Rattle.runfile.proofs.Stages.{before, same-look, Passed, passed, next, counted}
 use Rattle.transcript.specs.Lines.{refusedLine}
-use Rattle.walk.specs.Walk.{Turn, isTaken, Walker, walking, headed, opened, blockWalked, walkedFrom, walked}
-use Rattle.walk.specs.Feeding.{Walking, headingOf, openingOf, foundBy, textBy, foundIn, foundText, Part, lineThen, partOf, foundGives, feedOf, finishOf, fedText}
+use Rattle.walk.specs.Walk.{isTaken, Walker, walking, headed, opened, blockWalked, walkedFrom, walked}
+use Rattle.walk.specs.Feeding.{headingOf, openingOf, foundBy, textBy, foundIn, foundText, Part, lineThen, partOf, foundGives, feedOf, finishOf, fedText}
 
 -- a walk v that does what w does, in every state that some block 0 and the actions after it can lead to
 pub record Does {S : Type 0} (Good : S → Type 0) (w v : Walker S) : Type 0 where

@@ -2,6 +2,8 @@ use mathlib.Core.Path.{_≡_, refl, sym, _∙_}
 use native.Mathlib.Omega.{arith}
 use lib.ListN.{length}
 use borrow.Author.Needs.{needs}
+use Rattle.runfile.specs.declared.BlockHead.the-variants.{Holds, Refused}
+use Rattle.runfile.specs.Order.{lookOf}
 use Rattle.transcript.specs.Lines.{refusedLine}
 use Rattle.transcript.proofs.Puts.{puts-none}
 use Rattle.transcript.proofs.Rooms.{puts-line}
@@ -47,7 +49,7 @@ returns-2 c =
     let line = puts-line {buf = a .out .now} {at = 0} {text = refusedLine (c .before .before .accepted-by .result) (c .before .refusal .result)} (omega arith) (put .1 .0) (put .1 .1) in
     let number = rw (told .1) at (c .before .refusal .ensures) in
     let text = rw (c .before .before .accepted-by .ensures .1, number) at line in
-    let is = sym (c .before .before .before .before .before .before .look .ensures .0) ∙ told .1 in
+    let is : lookOf (a .stage) (a .m) (a .piece .now) ≡ Refused (told .0 .0) = sym (c .before .before .before .before .before .before .look .ensures .0) ∙ told .1 in
     rw (going, is) (omega arith, (refl, (tt, text)))
 
 put-heading-requires : tie.Need-put-heading-requires
@@ -56,10 +58,11 @@ put-heading-requires c κs = search needs
 returns-3 : tie.Need-returns-3
 unfolding foundIn foundText
 returns-3 c =
+    let a = c .before .before .before .before .before .before .before .before .before .args in
     let going = sym (c .before .before .before .before .before .before .before .is-ended .ensures) ∙ c .before .before .before .before .before .before .if1 .left in
     let looked = c .before .before .before .before .before .look .ensures in
     let block = c .before .before .before .head .given in
-    let is = sym (looked .0) ∙ block .1 in
+    let is : lookOf (a .stage) (a .m) (a .piece .now) ≡ Holds (block .0 .0) (block .0 .1 .0) (block .0 .1 .1 .0) = sym (looked .0) ∙ block .1 in
     let known = rw (block .1) at (looked .1) in
     let put = c .put-heading .ensures in
     rw (going, is) (put .0, (refl, (known, put .1)))
