@@ -12,7 +12,7 @@ use Rattle.transcript.specs.Lines.{doneLine}
 use Rattle.transcript.specs.Room.{Puts}
 use Rattle.walk.specs.Walk.{Walker}
 use Rattle.walk.specs.Feeding as F
-use Rattle.walk.specs.Feeding.{Walking, Part}
+use Rattle.walk.specs.Feeding.{Walking}
 use Rattle.player.specs.Printed.{turn}
 use Rattle.player.specs.declared.Player.{Player}
 use Rattle.player.specs.declared.block.Part as played
@@ -32,14 +32,17 @@ advancing = record {
 }
 
 -- what the actions of a block give, one by one
-abbrev pub turnOf : ℕ → ℕ → Result → Part State → Part State
+abbrev pub Part : Type 0
+Part = F.Part State
+
+abbrev pub turnOf : ℕ → ℕ → Result → Part → Part
 turnOf i kind r later = F.turnOf i (turn i kind r) later
 
-abbrev pub partOf : List Action → State → ℕ → Part State
+abbrev pub partOf : List Action → State → ℕ → Part
 partOf l s i = F.partOf advancing l s i
 
 -- the player's function does that: it puts the text into a buffer at a place
-pub record Plays (p : Part State) (buf : List ℕ) (at : ℕ) (r : played.Part) (after : List ℕ) : Type 0 where
+pub record Plays (p : Part) (buf : List ℕ) (at : ℕ) (r : played.Part) (after : List ℕ) : Type 0 where
   pub puts : Puts buf at (p .text) (r .end) after
   pub leaves : view (r .bus) ≡ p .state
   pub stops : r .ended ≡ p .ended
