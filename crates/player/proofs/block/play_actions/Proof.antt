@@ -89,7 +89,8 @@ is-step c =
     let plan = c .before .before .before .before .before .before .before .before .before .plan in
     let p = plan .result in
     let i = aim .result .node in
-    let is-plan = plan .ensures ∙ ap (tried (b .n) (b .phase) i (cell .result) (mark (b .won)) (mark (b .pending)) (mark (b .holder))) (aim .ensures .0) in
+    let planned = tried (b .n) (b .phase) i (cell .result) (mark (b .won)) (mark (b .pending)) (mark (b .holder)) in
+    let is-plan = _∙_ {b = planned (aim .result .decoded)} (plan .ensures) (ap planned (aim .ensures .0)) in
     carries b (glance (b .n) (b .phase) act) i (cell .result) p (c .before .before .before .before .before .before .before .before .before .before .before .before .before .before .before .before .before .before .before .before .before .loop .inv .4) (ready-glance (b .n) (b .phase) (mark (b .pending)) act) (aim .ensures .1 .1) (aim .ensures .1 .0) (cell .ensures) is-plan
     (c .before .before .before .before .before .before .before .node-of .result) (c .before .before .before .before .clear .last .0) (c .before .clear2 .last .0) (c .before .before .before .before .before .clears-won .result) (c .before .before .clears-misled .result) (c .before .before .before .before .before .before .before .node-of .ensures) (c .before .before .before .before .before .clears-won .ensures) (c .before .before .before .before .clear .ensures .1) (c .before .before .clears-misled .ensures) (c .before .clear2 .ensures .1)
     ∙ advances b act
