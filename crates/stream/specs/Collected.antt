@@ -3,12 +3,16 @@ use mathlib.Core.Bool.{cond}
 use mathlib.Core.List.{List}
 use Prim.Native.Nat.{ℕ, _+_, _-_}
 use lib.Dec.{leb, ltb}
-use lib.ListN.{length}
+use lib.ListN.{length, take}
 use lib.Seq.{sets}
 
 -- of so many bytes no more than there are
 abbrev pub heldOf : ℕ → ℕ → ℕ
 heldOf used size = cond (ltb size used) size used
+
+-- so many first bytes of a text
+abbrev pub firstOf : ℕ → List ℕ → List ℕ
+firstOf size text = take (heldOf size (length text)) text
 
 -- a text is added after the bytes held where it has room there, or else at the start; one longer than the buffer is not kept
 unfoldable pub heldAfter : ℕ → ℕ → ℕ → ℕ

@@ -1,9 +1,9 @@
 // Text collected in a buffer that the caller lends, and written to standard output in large parts.
 ghost use mathlib.Core.Path.{_≡_};
 ghost use Prim.Native.Nat.{_≤_};
-ghost use lib.ListN.{length, take};
+ghost use lib.ListN.{length};
 ghost use Rattle.io.specs.Counts.{Counts};
-ghost use Rattle.stream.specs.Collected.{heldOf, heldAfter, collected};
+ghost use Rattle.stream.specs.Collected.{heldOf, firstOf, heldAfter, collected};
 use libc::STDOUT_FILENO;
 
 // A buffer holds no more bytes than it has.
@@ -42,7 +42,7 @@ fn add(out: &mut [u8], at: usize, text: &[u8]) -> usize
 pub fn collect(out: &mut [u8], used: usize, text: &[u8], size: usize) -> usize
     ensures { λ r. ⌜ Counts r (now (out .exit)) ⌝ }
     ensures { λ r. ⌜ r ≡ heldAfter (length (now (out .entry))) (heldOf used (length (now (out .entry)))) (heldOf size (length (now (text .entry)))) ⌝ }
-    ensures { λ _. ⌜ now (out .exit) ≡ collected (now (out .entry)) (heldOf used (length (now (out .entry)))) (take (heldOf size (length (now (text .entry)))) (now (text .entry))) ⌝ }
+    ensures { λ _. ⌜ now (out .exit) ≡ collected (now (out .entry)) (heldOf used (length (now (out .entry)))) (firstOf size (now (text .entry))) ⌝ }
 {
     let more = held(size, text.len());
     add(out, held(used, out.len()), &text[..more])

@@ -22,6 +22,13 @@ holdWord hold = cond (eqb hold 0) [] (ascii "hold" ∷ [])
 abbrev pub changeWord : ℕ → List (List ℕ)
 changeWord address = cond (eqb address 0) [] (addressWord address ∷ [])
 
+-- "`request 0 1 5 6` (node, address or `all`, header, data)"
+abbrev pub requestWords : Action → List (List ℕ)
+requestWords a = ascii "request" ∷ decimal (a .node) ∷ addressWord (a .address) ∷ decimal (a .header) ∷ decimal (a .datum) ∷ []
+
+abbrev pub respondWords : Action → List (List ℕ)
+respondWords a = ascii "respond" ∷ decimal (a .node) ∷ decimal (a .ack) ∷ holdWord (a .hold)
+
 -- words that end a line, after its first word
 abbrev pub lineAfter : List (List ℕ) → List ℕ
 lineAfter [] = 10 ∷ []
@@ -30,9 +37,9 @@ lineAfter (w ∷ l) = 32 ∷ line (w ∷ l)
 -- an action's words: its kind and the fields that the kind names; a record of another kind has none
 unfoldable pub wordsFor : Action → List (List ℕ)
 wordsFor a =
-    cond (eqb (a .kind) 1) (ascii "request" ∷ decimal (a .node) ∷ addressWord (a .address) ∷ decimal (a .header) ∷ decimal (a .datum) ∷ [])
+    cond (eqb (a .kind) 1) (requestWords a)
     (cond (eqb (a .kind) 2) (ascii "arbitrate" ∷ decimal (a .node) ∷ [])
-    (cond (eqb (a .kind) 3) (ascii "respond" ∷ decimal (a .node) ∷ decimal (a .ack) ∷ holdWord (a .hold))
+    (cond (eqb (a .kind) 3) (respondWords a)
     (cond (eqb (a .kind) 4) (ascii "clock" ∷ decimal (a .node) ∷ [])
     (cond (eqb (a .kind) 5) (ascii "pass" ∷ [])
     (cond (eqb (a .kind) 6) (ascii "lose" ∷ [])

@@ -5,7 +5,7 @@ ghost use lib.ListN.{length};
 ghost use Rattle.transcript.specs.Text.{ascii, decimal};
 ghost use Rattle.transcript.specs.Lines.{line};
 ghost use Rattle.transcript.specs.Room.{Puts};
-ghost use Rattle.transcript.specs.Printed.{addressWord, holdWord, lineAfter, changeWord, actionLine, faultWords, faultLine};
+ghost use Rattle.transcript.specs.Printed.{requestWords, respondWords, addressWord, holdWord, lineAfter, changeWord, actionLine, faultWords, faultLine};
 use crate::Fault;
 use crate::text;
 use charts::Action;
@@ -24,7 +24,7 @@ fn put_address(buf: &mut [u8], at: usize, address: u8) -> usize
 fn put_request(buf: &mut [u8], at: usize, a: Action) -> usize
     requires { ⌜ at + 40 ≤ length (now buf) ⌝ }
     ensures { λ r. ⌜ r ≤ at + 40 ⌝ }
-    ensures { λ r. ⌜ Puts (now (buf .entry)) at (line (ascii "request" ∷ decimal (a .node) ∷ addressWord (a .address) ∷ decimal (a .header) ∷ decimal (a .datum) ∷ [])) r (now (buf .exit)) ⌝ }
+    ensures { λ r. ⌜ Puts (now (buf .entry)) at (line (requestWords a)) r (now (buf .exit)) ⌝ }
 {
     let b = text::put_word(buf, at, b"request ");
     let c = text::put_u8(buf, b, a.node);
@@ -59,7 +59,7 @@ fn put_hold(buf: &mut [u8], at: usize, hold: u8) -> usize
 fn put_respond(buf: &mut [u8], at: usize, a: Action) -> usize
     requires { ⌜ at + 40 ≤ length (now buf) ⌝ }
     ensures { λ r. ⌜ r ≤ at + 40 ⌝ }
-    ensures { λ r. ⌜ Puts (now (buf .entry)) at (line (ascii "respond" ∷ decimal (a .node) ∷ decimal (a .ack) ∷ holdWord (a .hold))) r (now (buf .exit)) ⌝ }
+    ensures { λ r. ⌜ Puts (now (buf .entry)) at (line (respondWords a)) r (now (buf .exit)) ⌝ }
 {
     let b = text::put_word(buf, at, b"respond ");
     let c = text::put_u8(buf, b, a.node);
