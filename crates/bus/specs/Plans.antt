@@ -55,7 +55,3 @@ pub record Fits (n : ℕ) (p : Phase) (i : ℕ) : Type 0 where
 abbrev pub Ready : ℕ → Phase → (ℕ → Bool) → Decoded → Type 0
 Ready n p ps (Refused k) = Unit {0}
 Ready n p ps (Accepted m) = Fits n p (target n p ps m)
-
-abbrev pub numberOf : Decoded → ℕ
-numberOf (Refused k) = k
-numberOf (Accepted m) = N.accepted

@@ -5,7 +5,7 @@ ghost use Prim.Native.Nat.{_<_, _≤_};
 ghost use Rattle.charts.specs.Actions.{target, outcome};
 ghost use Rattle.charts.specs.Valid.{phaseFits};
 ghost use Rattle.charts.specs.View.{mark};
-ghost use Rattle.bus.specs.Plans.{settled, aimed, tried, numberOf, Ready};
+ghost use Rattle.bus.specs.Plans.{settled, aimed, tried, Ready};
 use crate::actions;
 use crate::marks;
 use crate::phases;
@@ -68,16 +68,6 @@ fn play(
     }
 }
 
-// The number of a refusal.
-fn number_of(d: Decoded) -> u8
-    ensures { λ r. ⌜ r ≡ numberOf d ⌝ }
-{
-    match d {
-        Decoded::Refused(k) => k,
-        Decoded::Accepted(_) => 0,
-    }
-}
-
 // The node that a record is about; a refused one is about none, and node 0's cell stays.
 pub(crate) fn aim(n: u8, phase: Phase, pending: &[bool; 63], d: Decoded) -> u8
     requires { ⌜ Ready n phase (mark (now pending)) d ⌝ }
@@ -104,7 +94,7 @@ pub(crate) fn decide(
     ensures { λ r. ⌜ r ≡ tried n phase i c (mark (now (won .entry))) (mark (now (pending .entry))) (mark (now (holder .entry))) d ⌝ }
 {
     let Decoded::Accepted(m) = d else {
-        return plans::refuse(number_of(d), phase, c);
+        return plans::refuse(record::number(d), phase, c);
     };
     if !validity::is_ready(n, phase, i) {
         return plans::refuse(NOT_VALID, phase, c);

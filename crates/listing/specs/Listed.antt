@@ -4,7 +4,7 @@ use mathlib.Core.List.{List, []}
 use Prim.Native.Nat.{ℕ}
 use Rattle.charts.specs.Records.{read}
 use Rattle.charts.specs.declared.Action.{Action}
-use Rattle.runfile.specs.Write.{numberOf}
+use Rattle.record.specs.Looked.{numberOf}
 use Rattle.runfile.specs.declared.order.Stage.the-variants.{Unopened}
 use Rattle.transcript.specs.Printed.{actionLine}
 use Rattle.transcript.specs.Room.{Puts}

@@ -35,7 +35,7 @@ pub(crate) fn put_actions(
     while k < last {
         let from = 14 + 16 * k;
         let a = record::read_action(&piece[from..]);
-        let number = runfile::number(record::decode(n, a));
+        let number = record::number(record::decode(n, a));
         if number != 0 {
             let stop = transcript::put_refused(out, end, first + k as u64, number);
             return Part {

@@ -8,6 +8,7 @@ ghost use lib.Seq.{sets};
 ghost use Rattle.charts.specs.Records.{isKind, namesAddress, zeroUnless, clean, isAddress, moveOf, read};
 ghost use Rattle.record.specs.Bytes.{little, value, hasRoom, putAt};
 ghost use Rattle.record.specs.Layout.{bytesOf, actionAt};
+ghost use Rattle.record.specs.Looked.{numberOf};
 use charts::Action;
 use charts::Decoded;
 use charts::Head;
@@ -135,6 +136,16 @@ pub fn decode(n: u8, a: Action) -> Decoded
         return Decoded::Refused(WRONG_ANSWER);
     }
     Decoded::Accepted(move_of(a))
+}
+
+// The number by which a record that was looked at is refused, or 0.
+pub fn number(d: Decoded) -> u8
+    ensures { λ r. ⌜ r ≡ numberOf d ⌝ }
+{
+    match d {
+        Decoded::Refused(k) => k,
+        Decoded::Accepted(_) => 0,
+    }
 }
 
 // The number that four bytes are, the lowest first.

@@ -14,11 +14,6 @@ use Rattle.record.specs.Bytes.{little}
 use Rattle.record.specs.Layout.{actionsOf, recordsOf}
 use Rattle.runfile.specs.Block.{isCount, zeros, checkSum}
 
--- this paper's number of a record that was looked at
-abbrev pub numberOf : Decoded → ℕ
-numberOf (D.Refused k) = k
-numberOf (D.Accepted m) = N.accepted
-
 -- "then 2 to 6 for each action": the first refusal, or 0
 abbrev pub refusedOr : Decoded → ℕ → ℕ
 refusedOr (D.Refused k) later = k

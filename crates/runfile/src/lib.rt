@@ -8,10 +8,11 @@ ghost use lib.ListN.{length};
 ghost use lib.Seq.{sets, slice};
 ghost use Rattle.charts.specs.Valid.{isSize};
 ghost use Rattle.runfile.specs.Block.{checkOf, isCount, zeros, allZero, countIn, headOf, headFits, countFits, readBlock, blockFits, usedBytes};
-ghost use Rattle.runfile.specs.Write.{numberOf, firstRefusal, writeNumber, bodyOf, blockWith, written};
+ghost use Rattle.runfile.specs.Write.{firstRefusal, writeNumber, bodyOf, blockWith, written};
 ghost use Rattle.record.specs.Layout.{actionsOf};
 use charts::Decoded;
 use record::decode;
+use record::number;
 use record::number_of;
 use record::put_little;
 use record::read_action;
@@ -161,16 +162,6 @@ pub fn action_bytes(block: &[u8]) -> &[u8]
     };
     let end = 14 + 16 * (count as usize);
     &block[14..end]
-}
-
-// The number of an action record that was looked at by 2 to 6, or 0.
-pub fn number(d: Decoded) -> u8
-    ensures { λ r. ⌜ r ≡ numberOf d ⌝ }
-{
-    match d {
-        Decoded::Refused(k) => k,
-        Decoded::Accepted(_) => 0,
-    }
 }
 
 // The first refusal, by 2 to 6, of so many action records in order; or 0.

@@ -15,14 +15,14 @@ enum-known-d c = search needs
 enum-told : tie.Need-enum-told
 enum-told c = search needs
 
-number-of-requires : tie.Need-number-of-requires
-number-of-requires c κs = search needs
+number-requires : tie.Need-number-requires
+number-requires c κs = search needs
 
 refuse-requires : tie.Need-refuse-requires
 refuse-requires c κs = search needs
 
 returns : tie.Need-returns
-returns c = simp (c .before .before .enum-told .given .1, c .before .number-of .ensures, c .refuse .ensures)
+returns c = simp (c .before .before .enum-told .given .1, c .before .number .ensures, c .refuse .ensures)
 
 is-ready-requires : tie.Need-is-ready-requires
 is-ready-requires c κs = search needs
@@ -51,7 +51,7 @@ decide-spec =
     (tie.spec
     enum-known-d
     enum-told
-    number-of-requires
+    number-requires
     refuse-requires
     returns
     is-ready-requires

@@ -8,7 +8,7 @@ use Rattle.charts.specs.Records.{read}
 use Rattle.record.specs.Layout.{actionAt}
 use Rattle.record.proofs.Walk.{tail-part}
 use Rattle.runfile.specs.Pieces.{actionsIn}
-use Rattle.runfile.specs.Write.{numberOf}
+use Rattle.record.specs.Looked.{numberOf}
 use Rattle.runfile.proofs.Pieces.{left, left-all, left-none, left-more}
 use Rattle.transcript.specs.Lines.{refusedLine}
 use Rattle.transcript.specs.Printed.{actionLine}
