@@ -127,7 +127,7 @@ impl<'a> Seen<'a> {
         actions > 0 && actions.is_multiple_of(FULL)
     }
 
-    /// Whether the complaint is this, after its line's number.
+    /// Whether the complaint goes on like this after the number of its line.
     fn says(&self, start: &str) -> bool {
         self.printed.split_once(": ").is_some_and(|(_, flaw)| flaw.starts_with(start))
     }
