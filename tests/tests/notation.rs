@@ -230,12 +230,12 @@ fn long_lines() {
     assert_eq!(fault(&[b'x'; 256]), Fault::LongLine);
     assert_eq!(fault(&[b'#'; 256]), Fault::LongLine);
     let with = |length: usize, newline: &str| format!("nodes 2\n{}{newline}", "#".repeat(length));
-    assert_eq!(complaint(&with(255, "")), ("line 2: no action".into(), 0));
-    assert_eq!(complaint(&with(255, "\n")), ("line 2: no action".into(), 0));
-    assert_eq!(complaint(&with(256, "")), ("line 2: line over 255 bytes".into(), 0));
-    assert_eq!(complaint(&with(256, "\n")), ("line 2: line over 255 bytes".into(), 0));
+    assert_eq!(complaint(with(255, "")), ("line 2: no action".into(), 0));
+    assert_eq!(complaint(with(255, "\n")), ("line 2: no action".into(), 0));
+    assert_eq!(complaint(with(256, "")), ("line 2: line over 255 bytes".into(), 0));
+    assert_eq!(complaint(with(256, "\n")), ("line 2: line over 255 bytes".into(), 0));
     // The carriage return counts.
-    assert_eq!(complaint(&with(255, "\r\n")), ("line 2: line over 255 bytes".into(), 0));
+    assert_eq!(complaint(with(255, "\r\n")), ("line 2: line over 255 bytes".into(), 0));
 }
 
 #[test]
@@ -258,7 +258,7 @@ fn whole_texts() {
         let mut records = vec![clock(1); 2];
         records.extend(vec![pass(); count]);
         let file = runfile::write_file(9, &records).expect("the writer takes it");
-        assert_eq!(composed(&format!("nodes 9\nclock 1 * 2\npass * {count}\n")), file);
+        assert_eq!(composed(format!("nodes 9\nclock 1 * 2\npass * {count}\n")), file);
     }
 }
 
@@ -420,7 +420,7 @@ fn hints() {
     assert_eq!(flaw(b"*"), r#"unknown word: "*""#);
     assert_eq!(flaw(b"\x80~"), r#"unknown word: "\x80~""#);
     // UTF-16 with its own mark.
-    let wide = b"\xff\xfen\0o\0d\0e\0s\0 \02\0\n\0";
+    let wide = b"\xff\xfen\0o\0d\0e\0s\0 \x002\0\n\0";
     let shown = r#"line 1: unknown word: "\xFF\xFEn\x00o\x00d\x00e\x00s\x00""#;
     assert_eq!(complaint(wide), (format!("{shown} {NOT_PLAIN}"), 0));
 }
