@@ -10,7 +10,8 @@ use bench_model::{notation, player};
 
 const USAGE: &str = "\
 model play                                        a run file in, the printed text out
-model compose                                     a run in plain words in, a run file out
+model compose [--lines]                           a run in plain words in, a run file out; or which line
+                                                  says how many actions
 model list                                        a run file in, the run in plain words out
 model compare PLAY [--files N] [--seed S] [--only K]
                                                   made files, played by PLAY and by the model
@@ -44,8 +45,9 @@ fn command() -> Result<(), String> {
             play().map_err(|error| error.to_string())
         }
         "compose" => {
+            let lines = rest.flag("--lines");
             rest.end()?;
-            compose().map_err(|error| error.to_string())
+            compose(lines).map_err(|error| error.to_string())
         }
         "list" => {
             rest.end()?;
@@ -122,10 +124,14 @@ fn play() -> io::Result<()> {
 }
 
 /// A fault is one line on standard error; as with the programs, the exit status does not tell.
-fn compose() -> io::Result<()> {
+fn compose(lines: bool) -> io::Result<()> {
     let mut input = BufReader::with_capacity(1 << 18, io::stdin().lock());
     let mut output = BufWriter::with_capacity(1 << 18, io::stdout().lock());
-    if let Err(complaint) = notation::compose_stream(&mut input, &mut output)? {
+    let ended = match lines {
+        true => notation::lines_stream(&mut input, &mut output)?,
+        false => notation::compose_stream(&mut input, &mut output)?,
+    };
+    if let Err(complaint) = ended {
         eprintln!("{complaint}");
     }
     Ok(())
@@ -143,6 +149,12 @@ struct Arguments {
 }
 
 impl Arguments {
+    /// Whether this word is among them.
+    fn flag(&mut self, name: &str) -> bool {
+        let place = self.words.iter().position(|word| word == name);
+        place.map(|place| self.words.remove(place)).is_some()
+    }
+
     fn option(&mut self, name: &str) -> Result<Option<String>, String> {
         let Some(place) = self.words.iter().position(|word| word == name) else {
             return Ok(None);

@@ -12,6 +12,7 @@ use std::time::Duration;
 const PATIENCE: Duration = Duration::from_secs(60);
 
 /// What a program gets on its standard input.
+#[derive(Clone, Copy)]
 pub enum Input<'a> {
     File(&'a Path),
     /// Through a pipe, in pieces of this many bytes.
@@ -26,10 +27,10 @@ pub struct Ran {
     pub status: Option<ExitStatus>,
 }
 
-/// Runs the program; reads at most `limit` bytes of what it prints.
-pub fn run(program: &Path, input: Input, limit: usize) -> io::Result<Ran> {
+/// Runs the program with these arguments; reads at most `limit` bytes of what it prints.
+pub fn run(program: &Path, arguments: &[&str], input: Input, limit: usize) -> io::Result<Ran> {
     let mut command = Command::new(program);
-    command.stdout(Stdio::piped()).stderr(Stdio::piped());
+    command.args(arguments).stdout(Stdio::piped()).stderr(Stdio::piped());
     match input {
         Input::File(path) => command.stdin(File::open(path)?),
         Input::Pipe(..) => command.stdin(Stdio::piped()),

@@ -67,10 +67,10 @@ fn one_file(options: &Options, index: u64, path: &Path, tally: &mut Tally) -> Re
     // Mostly from a file; now and then through a pipe, in odd pieces.
     let ran = if index % 4 == 3 {
         let piece = random.pick(&[1, 7, 511, 512, 513, 4096]).max(case.bytes.len() / 2000);
-        child::run(options.program, Input::Pipe(&case.bytes, piece), text.len() + 65_536)
+        child::run(options.program, &[], Input::Pipe(&case.bytes, piece), text.len() + 65_536)
     } else {
         fs::write(path, &case.bytes).map_err(|error| fail(error.to_string()))?;
-        child::run(options.program, Input::File(path), text.len() + 65_536)
+        child::run(options.program, &[], Input::File(path), text.len() + 65_536)
     };
     let ran = ran.map_err(|error| fail(format!("the program could not be run: {error}")))?;
     if let Some(difference) = child::difference(&ran, &text) {

@@ -1,6 +1,6 @@
-//! `model compare-text`: texts through the program `compose` and run files through `list`, and both
-//! through the model. What they write to standard output and standard error is compared byte for
-//! byte.
+//! `model compare-text`: texts through the program `compose`, with `--lines` too, and run files
+//! through `list`, and all of them through the model. What they write to standard output and
+//! standard error is compared byte for byte.
 
 use std::collections::BTreeMap;
 use std::fs;
@@ -10,10 +10,10 @@ use std::path::Path;
 use super::child::{self, Input, Ran};
 use super::random::Random;
 use super::tally;
-use super::texts::{TextCase, TextWay, NAMES};
+use super::texts::{aims, TextCase, TextWay};
 use super::ways::{self, Way};
 use super::workers::{self, Merge};
-use crate::notation::{self, Complaint, Fault, LONGEST_LINE};
+use crate::notation::{self, Complaint};
 use crate::runfile::BLOCK;
 
 pub struct Options<'a> {
@@ -25,48 +25,6 @@ pub struct Options<'a> {
     /// Only the text with this number, and the run file that goes with it.
     pub only: Option<u64>,
 }
-
-/// What the texts and files must hit: faults, words, ways to write, numbers that end a listing.
-const FAULTS: [Fault; 14] = [
-    Fault::LongLine,
-    Fault::UnknownWord,
-    Fault::MissingField,
-    Fault::NotANumber,
-    Fault::TooLarge,
-    Fault::ExtraField,
-    Fault::RepeatOfZero,
-    Fault::NoNodesLine,
-    Fault::NodesAgain,
-    Fault::NoAction,
-    Fault::Refused(1),
-    Fault::Refused(4),
-    Fault::Refused(5),
-    Fault::Refused(6),
-];
-
-/// The words that begin a line, then the others.
-fn known_words() -> impl Iterator<Item = &'static str> {
-    NAMES.into_iter().chain(["all", "hold", "*"])
-}
-
-const STYLES: [&str; 16] = [
-    "a comment",
-    "a tab",
-    "a carriage return",
-    "a blank line",
-    "a line of 255 bytes",
-    "a number with 0x",
-    "a number with capital digits",
-    "no newline at the end",
-    "an empty text",
-    "a text that composes",
-    "a fault in the first line",
-    "a fault after whole blocks",
-    "a fault right after a whole block",
-    "a fault at the end of the text",
-    "a repeat over the end of a block",
-    "change alone, repeated",
-];
 
 /// Numbers of document 01 that end a listing.
 const LISTED: [u8; 10] = [1, 2, 3, 4, 5, 6, 8, 9, 10, 11];
@@ -81,13 +39,11 @@ impl Merge for Tally {
     }
 }
 
-fn aims() -> Vec<String> {
-    let faults = FAULTS.iter().map(|fault| format!("fault: {fault}"));
-    let words = known_words().map(|word| format!("word: {word}"));
-    let styles = STYLES.iter().map(|style| format!("text: {style}"));
+/// What the texts and files must hit.
+fn all_aims() -> Vec<String> {
     let listed = LISTED.iter().map(|number| format!("listing refused by {number}"));
     let whole = ["listing of a whole file, composed again".to_string()];
-    faults.chain(words).chain(styles).chain(listed).chain(whole).collect()
+    aims::aims().into_iter().chain(listed).chain(whole).collect()
 }
 
 pub fn compare_text(options: &Options) -> Result<String, String> {
@@ -103,34 +59,38 @@ pub fn compare_text(options: &Options) -> Result<String, String> {
         return Ok("equal\n".into());
     }
     without_end(options.compose)?;
+    beyond_a_run_file(options.compose)?;
     let count = |name: &String| total.get(name).copied().unwrap_or(0);
-    let aims = aims();
+    let aims = all_aims();
     let lines: String = aims.iter().map(|name| format!("  {:>7}  {name}\n", count(name))).collect();
     let (texts, files) = (options.files, options.files.div_ceil(3));
     let text = format!("{texts} texts, {files} run files; hit:\n{lines}");
     let missing: Vec<_> = aims.iter().filter(|name| count(name) == 0).cloned().collect();
     match missing.is_empty() {
-        true => Ok(text + "equal throughout; every fault and every word was hit\n"),
+        true => Ok(text + "equal throughout; all of these were hit\n"),
         false => Err(format!("{text}not hit: {}: more files?", missing.join("; "))),
     }
 }
 
-/// Runs a program on these bytes: mostly from a file, now and then through a pipe in odd pieces.
-fn run(
-    program: &Path,
-    bytes: &[u8],
+/// These bytes for a program: mostly in a file, now and then through a pipe in odd pieces.
+fn input<'a>(
+    bytes: &'a [u8],
     index: u64,
-    path: &Path,
+    path: &'a Path,
     random: &mut Random,
-    limit: usize,
-) -> io::Result<Ran> {
-    let limit = limit + 65_536;
+) -> Result<Input<'a>, String> {
     if index % 4 == 3 {
-        let piece = random.pick(&[1, 7, 255, 256, 257, 512, 4096]).max(bytes.len() / 2000);
-        return child::run(program, Input::Pipe(bytes, piece), limit);
+        let piece = random.pick(&[1, 2, 7, 255, 256, 257, 512, 4096]).max(bytes.len() / 2000);
+        return Ok(Input::Pipe(bytes, piece));
     }
-    fs::write(path, bytes)?;
-    child::run(program, Input::File(path), limit)
+    fs::write(path, bytes).map_err(|error| format!("{}: {error}", path.display()))?;
+    Ok(Input::File(path))
+}
+
+/// Runs a program that should write this much to standard output.
+fn run(program: &Path, arguments: &[&str], input: Input, length: usize) -> Result<Ran, String> {
+    child::run(program, arguments, input, length + 65_536)
+        .map_err(|error| format!("{} could not be run: {error}", program.display()))
 }
 
 /// Both streams of a program against the model's.
@@ -164,12 +124,18 @@ fn difference(ran: &Ran, output: &[u8], errors: &[u8]) -> Option<String> {
     ))
 }
 
+/// The same for a program that writes lines: where they differ.
+fn difference_of_lines(ran: &Ran, output: &[u8], errors: &[u8]) -> Option<String> {
+    let why = difference(ran, output, errors)?;
+    Some(format!("{why}; {}", child::difference(ran, output).unwrap_or_default()))
+}
+
 fn one_text(options: &Options, index: u64, path: &Path, tally: &mut Tally) -> Result<(), String> {
     let mut random = Random::of(options.seed.rotate_left(17), index);
     let ways = TextWay::all();
     let way = ways[index as usize % ways.len()];
     let case = way.make(&mut random);
-    let (file, ended) = notation::compose(&case.text);
+    let made = Made::of(&case.text);
     let fail = |why: String| {
         let name = format!("model-seed-{}-text-{index}.txt", options.seed);
         let kept = child::keep(&name, &case.text);
@@ -179,102 +145,65 @@ fn one_text(options: &Options, index: u64, path: &Path, tally: &mut Tally) -> Re
             options.seed, options.seed
         )
     };
-    check_model(&case, &file, ended).map_err(fail)?;
-    let errors = match ended {
-        Ok(()) => String::new(),
-        Err(complaint) => format!("{complaint}\n"),
-    };
-    let ran = run(options.compose, &case.text, index, path, &mut random, file.len())
-        .map_err(|error| fail(format!("COMPOSE could not be run: {error}")))?;
-    if let Some(why) = difference(&ran, &file, errors.as_bytes()) {
+    made.check(&case).map_err(fail)?;
+    let errors =
+        made.complaint.as_ref().map_or(String::new(), |complaint| format!("{complaint}\n"));
+    let input = input(&case.text, index, path, &mut random).map_err(fail)?;
+    let ran = run(options.compose, &[], input, made.file.len()).map_err(fail)?;
+    if let Some(why) = difference(&ran, &made.file, errors.as_bytes()) {
         return Err(fail(format!("COMPOSE: {why}")));
     }
-    enter(&case.text, &file, ended, tally);
+    let ran = run(options.compose, &["--lines"], input, made.lines.len()).map_err(fail)?;
+    if let Some(why) = difference_of_lines(&ran, &made.lines, errors.as_bytes()) {
+        return Err(fail(format!("COMPOSE --lines: {why}")));
+    }
+    for name in aims::hits(&case.text, &made.file, made.complaint.as_ref()) {
+        *tally.entry(name).or_default() += 1;
+    }
     Ok(())
 }
 
-/// The model's own answer: as the way of the text says.
-fn check_model(case: &TextCase, file: &[u8], ended: Result<(), Complaint>) -> Result<(), String> {
-    let Some(expected) = &case.expected else {
-        return Ok(());
-    };
-    let fault = ended.err();
-    if fault != expected.fault {
-        let show = |fault: Option<Complaint>| fault.map(|fault| fault.to_string());
-        return Err(format!(
-            "the MODEL says {:?}, and should {:?}",
-            show(fault),
-            show(expected.fault)
-        ));
-    }
-    match file == expected.file {
-        true => Ok(()),
-        false => Err("the MODEL composes another file than it should".into()),
-    }
+/// What the model makes of a text.
+struct Made {
+    file: Vec<u8>,
+    lines: Vec<u8>,
+    complaint: Option<Complaint>,
+    /// Of `--lines`.
+    complaint_of_lines: Option<Complaint>,
 }
 
-/// Notes what a text has hit: lines up to the fault count.
-fn enter(text: &[u8], file: &[u8], ended: Result<(), Complaint>, tally: &mut Tally) {
-    let mut hit = |name: String| *tally.entry(name).or_default() += 1;
-    let mut style = |does: bool, place: usize| {
-        if does {
-            hit(format!("text: {}", STYLES[place]));
-        }
-    };
-    let mut lines: Vec<&[u8]> = text.split(|&byte| byte == b'\n').collect();
-    if lines.last() == Some(&&b""[..]) {
-        lines.pop();
+impl Made {
+    fn of(text: &[u8]) -> Made {
+        let (file, ended) = notation::compose(text);
+        let (lines, ended_lines) = notation::lines(text);
+        Made { file, lines, complaint: ended.err(), complaint_of_lines: ended_lines.err() }
     }
-    let read = match ended {
-        Ok(()) => &lines[..],
-        Err(complaint) => {
-            let at_end = matches!(complaint.fault, Fault::NoAction)
-                || complaint.fault == Fault::NoNodesLine
-                    && lines
-                        .iter()
-                        .all(|line| notation::read_line(line) == Ok(notation::Line::Blank));
-            style(complaint.line == 1 && !at_end, 10);
-            style(!file.is_empty(), 11);
-            style(at_end, 13);
-            let before = (complaint.line as usize).saturating_sub(usize::from(!at_end));
-            &lines[..before]
+
+    /// The model's own answer: one fault, and as the way of the text says.
+    fn check(&self, case: &TextCase) -> Result<(), String> {
+        let show = |complaint: &Option<Complaint>| complaint.as_ref().map(Complaint::to_string);
+        if self.complaint != self.complaint_of_lines {
+            let (one, other) = (show(&self.complaint), show(&self.complaint_of_lines));
+            return Err(format!("the MODEL says {one:?}, and with --lines {other:?}"));
         }
-    };
-    style(!text.is_empty() && !text.ends_with(b"\n"), 7);
-    style(text.is_empty(), 8);
-    style(ended.is_ok(), 9);
-    let mut actions = 0u64;
-    let mut found: Vec<&str> = Vec::new();
-    for line in read {
-        style(line.contains(&b'#'), 0);
-        style(line.contains(&b'\t'), 1);
-        style(line.contains(&b'\r'), 2);
-        style(line.len() == LONGEST_LINE, 4);
-        match notation::read_line(line) {
-            Ok(notation::Line::Blank) => style(true, 3),
-            Ok(notation::Line::Acts(record, times)) => {
-                let over = actions % 31 + u64::from(times) > 31;
-                style(times > 1 && over, 14);
-                style(
-                    times > 1 && record.kind == 7 && notation::words(line).nth(1) == Some(b"*"),
-                    15,
-                );
-                actions += u64::from(times);
-            }
-            _ => (),
+        let Some(expected) = &case.expected else {
+            return Ok(());
+        };
+        let fault = self.complaint.as_ref().map(|complaint| (complaint.line, complaint.flaw.fault));
+        if fault != expected.fault {
+            let expected = expected.fault.map(|(line, fault)| format!("line {line}: {fault}"));
+            return Err(format!(
+                "the MODEL says {:?}, and should {expected:?}",
+                show(&self.complaint)
+            ));
         }
-        for word in notation::words(line) {
-            style(word.starts_with(b"0x"), 5);
-            style(word.starts_with(b"0x") && word.iter().any(u8::is_ascii_uppercase), 6);
-            found.extend(known_words().filter(|known| known.as_bytes() == word));
+        if self.file != expected.file {
+            return Err("the MODEL composes another file than it should".into());
         }
-    }
-    style(ended.is_err() && actions > 0 && actions.is_multiple_of(31), 12);
-    for word in found {
-        hit(format!("word: {word}"));
-    }
-    if let Err(complaint) = ended {
-        hit(format!("fault: {}", complaint.fault));
+        match self.lines == expected.lines {
+            true => Ok(()),
+            false => Err("the MODEL says other lines than it should".into()),
+        }
     }
 }
 
@@ -306,11 +235,10 @@ fn one_file(options: &Options, index: u64, path: &Path, tally: &mut Tally) -> Re
     if !right {
         return Err(fail(format!("the MODEL's listing ends by {ended:?}")));
     }
-    let ran = run(options.list, &case.bytes, index + index / 3, path, &mut random, text.len())
-        .map_err(|error| fail(format!("LIST could not be run: {error}")))?;
-    if let Some(why) = difference(&ran, &text, b"") {
-        let lines = child::difference(&ran, &text).unwrap_or_default();
-        return Err(fail(format!("LIST: {why}; {lines}")));
+    let bytes = input(&case.bytes, index + index / 3, path, &mut random).map_err(fail)?;
+    let ran = run(options.list, &[], bytes, text.len()).map_err(fail)?;
+    if let Some(why) = difference_of_lines(&ran, &text, b"") {
+        return Err(fail(format!("LIST: {why}")));
     }
     match ended {
         Some(number) => {
@@ -320,8 +248,8 @@ fn one_file(options: &Options, index: u64, path: &Path, tally: &mut Tally) -> Re
             if notation::compose(&text) != (case.bytes.clone(), Ok(())) {
                 return Err(fail("the MODEL does not compose its listing to the same file".into()));
             }
-            let ran = run(options.compose, &ran.text, index, path, &mut random, case.bytes.len())
-                .map_err(|error| fail(format!("COMPOSE could not be run: {error}")))?;
+            let listing = input(&ran.text, index, path, &mut random).map_err(fail)?;
+            let ran = run(options.compose, &[], listing, case.bytes.len()).map_err(fail)?;
             if let Some(why) = difference(&ran, &case.bytes, b"") {
                 return Err(fail(format!("COMPOSE of the listing: {why}")));
             }
@@ -338,11 +266,22 @@ fn without_end(compose: &Path) -> Result<(), String> {
     let text = b"nodes 2\nclock 1 * 7\npass * 4294967295\n";
     let mut start = Start { bytes: Vec::new(), most: START };
     let _ = notation::compose_stream(&mut &text[..], &mut start);
-    let ran = child::run(compose, Input::Pipe(text, text.len()), START)
-        .map_err(|error| format!("COMPOSE could not be run: {error}"))?;
+    let ran = run(compose, &[], Input::Pipe(text, text.len()), START)?;
     match ran.text.get(..START) == Some(&start.bytes[..START]) {
         true => Ok(()),
         false => Err("a repeat of 4294967295: the first megabyte is not the model's".into()),
+    }
+}
+
+/// More actions than a run file takes: `--lines` reads them as any others, and at once.
+fn beyond_a_run_file(compose: &Path) -> Result<(), String> {
+    let text = format!("nodes 2\n{}", "pass * 4294967295\n".repeat(40));
+    let (lines, _) = notation::lines(text.as_bytes());
+    let input = Input::Pipe(text.as_bytes(), text.len());
+    let ran = run(compose, &["--lines"], input, lines.len())?;
+    match difference_of_lines(&ran, &lines, b"") {
+        Some(why) => Err(format!("40 repeats of 4294967295: COMPOSE --lines: {why}")),
+        None => Ok(()),
     }
 }
 

@@ -28,7 +28,7 @@ pub fn fuzz(program: &Path, files: u64, seed: u64) -> Result<String, String> {
             0 => Input::Pipe(&bytes, random.between(1, 5000) as usize),
             _ => Input::File(&path),
         };
-        let ran = child::run(program, input, text.len() + 65_536)
+        let ran = child::run(program, &[], input, text.len() + 65_536)
             .map_err(|error| fail(format!("the program could not be run: {error}")))?;
         if let Some(why) = child::difference(&ran, &text).or_else(|| wrong_form(&ran.text)) {
             return Err(fail(why));

@@ -81,7 +81,7 @@ fn check_one(sample: &Sample, programs: &Programs) -> Result<(), String> {
 /// What a program writes for these bytes; it must say nothing on standard error.
 fn run(program: &Path, bytes: &[u8]) -> Result<Vec<u8>, String> {
     let shown = program.display();
-    let ran = child::run(program, Input::Pipe(bytes, 4096), 1 << 24)
+    let ran = child::run(program, &[], Input::Pipe(bytes, 4096), 1 << 24)
         .map_err(|error| format!("{shown} could not be run: {error}"))?;
     match ran.status {
         Some(status) if status.success() && ran.errors.is_empty() => Ok(ran.text),

@@ -1,16 +1,16 @@
 //! Texts made at random: right ones in every style, ones with one wrong line, ones without a plan.
 //! Each knows what must be composed of it, from the grammar and not from the model.
 
+pub mod aims;
 mod spelling;
 mod wrong;
 
 use super::random::Random;
 use super::ways;
 use crate::bus::{Record, ALL_NODES};
-use crate::notation::{self, Complaint, Fault, Line};
+use crate::notation::{self, Fault, Line, MARK};
 use crate::runfile::{BLOCK, FULL};
-pub use spelling::NAMES;
-use spelling::{any_line, blank_line, join, spell_number, Slot, Word};
+use spelling::{any_line, blank_line, join, spell_number, Slot, Word, NAMES};
 pub use wrong::{End, Wrong};
 
 /// A text, and what must come of it; None without a plan.
@@ -21,7 +21,10 @@ pub struct TextCase {
 
 pub struct Expected {
     pub file: Vec<u8>,
-    pub fault: Option<Complaint>,
+    /// Which line says what.
+    pub lines: Vec<u8>,
+    /// The fault and the number of its line.
+    pub fault: Option<(u64, Fault)>,
 }
 
 #[derive(Clone, Copy, PartialEq, Eq, Debug)]
@@ -36,6 +39,8 @@ pub enum TextWay {
     Mutated,
     /// Words of the grammar and others, in any order.
     AnyWords,
+    /// A right text in UTF-16.
+    Wide,
     AnyBytes,
 }
 
@@ -45,9 +50,9 @@ impl TextWay {
         let mut all = [TextWay::Right, TextWay::Repeats].repeat(8);
         all.extend([1, 2, 30, 31, 32, 61, 62, 63, 93, 94].map(TextWay::RightOf));
         all.extend(Wrong::all().into_iter().map(TextWay::WrongLine));
-        all.extend([End::Empty, End::BlankAlone, End::NodesAlone].map(TextWay::WrongEnd));
+        all.extend(End::all().map(TextWay::WrongEnd));
         all.extend([TextWay::Mutated, TextWay::AnyWords].repeat(6));
-        all.push(TextWay::AnyBytes);
+        all.extend([TextWay::Wide, TextWay::AnyBytes]);
         all
     }
 
@@ -66,6 +71,7 @@ impl TextWay {
             TextWay::WrongEnd(end) => wrong::wrong_end(random, end),
             TextWay::Mutated => mutated(random),
             TextWay::AnyWords => any_words(random),
+            TextWay::Wide => wide(random),
             TextWay::AnyBytes => {
                 let length = random.below(2000);
                 let text = (0..length).map(|_| random.draw() as u8).collect();
@@ -79,8 +85,12 @@ impl TextWay {
 struct Writer<'a> {
     random: &'a mut Random,
     n: u8,
+    /// Starts with the byte order mark.
+    marked: bool,
     text: Vec<u8>,
     lines: u64,
+    /// Which of them says what.
+    said: Vec<u8>,
     records: Vec<Record>,
     /// With many blanks, comments and ways to write a number; or as `list` prints it.
     free: bool,
@@ -90,7 +100,17 @@ impl<'a> Writer<'a> {
     fn new(random: &'a mut Random) -> Writer<'a> {
         let n = ways::nodes(random);
         let free = random.percent(75);
-        Writer { random, n, text: Vec::new(), lines: 0, records: Vec::new(), free }
+        let marked = random.percent(20);
+        Writer {
+            random,
+            n,
+            marked,
+            text: Vec::new(),
+            lines: 0,
+            said: Vec::new(),
+            records: Vec::new(),
+            free,
+        }
     }
 
     /// A line as it stands.
@@ -98,6 +118,11 @@ impl<'a> Writer<'a> {
         self.text.extend_from_slice(line);
         self.text.push(b'\n');
         self.lines += 1;
+    }
+
+    /// The line put last says so many actions.
+    fn says(&mut self, actions: usize) {
+        self.said.extend_from_slice(format!("{} {actions}\n", self.lines).as_bytes());
     }
 
     /// Some lines that say nothing, now and then.
@@ -120,6 +145,7 @@ impl<'a> Writer<'a> {
         self.blanks();
         let n = self.number(self.n.into());
         self.words(&[b"nodes".to_vec(), n]);
+        self.says(1);
         self.blanks();
     }
 
@@ -130,6 +156,7 @@ impl<'a> Writer<'a> {
             words.extend([b"*".to_vec(), self.number(times as u64)]);
         }
         self.words(&words);
+        self.says(times);
         self.records.extend(std::iter::repeat_n(record, times));
         self.blanks();
     }
@@ -187,7 +214,7 @@ impl<'a> Writer<'a> {
         words
     }
 
-    /// The end of a text: the last newline may lack.
+    /// The text from its start, which may be the mark, to its end: the last newline may lack.
     fn text(&mut self) -> Vec<u8> {
         let mut text = std::mem::take(&mut self.text);
         // A last line that is empty would not be one without its newline.
@@ -198,20 +225,25 @@ impl<'a> Writer<'a> {
         {
             text.pop();
         }
-        text
+        match self.marked {
+            true => [MARK, &text].concat(),
+            false => text,
+        }
     }
 
     fn composes(mut self) -> TextCase {
         let file = ways::file(self.n, &self.records);
-        TextCase { text: self.text(), expected: Some(Expected { file, fault: None }) }
+        let lines = std::mem::take(&mut self.said);
+        TextCase { text: self.text(), expected: Some(Expected { file, lines, fault: None }) }
     }
 
-    /// The last line has this fault: whole blocks before it are out. Anything may follow.
+    /// The line put last has this fault: whole blocks before it are out. Anything may follow.
     fn faulty(mut self, fault: Fault) -> TextCase {
         let whole = self.records.len() / FULL;
         let mut file = ways::file(self.n, &self.records);
         file.truncate(whole * BLOCK);
-        let fault = Some(Complaint { line: self.lines, fault });
+        let lines = std::mem::take(&mut self.said);
+        let fault = Some((self.lines, fault));
         if self.random.percent(60) {
             let more = self.random.between(1, 70) as usize;
             self.actions(self.records.len() + more);
@@ -220,7 +252,7 @@ impl<'a> Writer<'a> {
             let line = any_line(self.random);
             self.put(&line);
         }
-        TextCase { text: self.text(), expected: Some(Expected { file, fault }) }
+        TextCase { text: self.text(), expected: Some(Expected { file, lines, fault }) }
     }
 }
 
@@ -258,13 +290,17 @@ fn mutated(random: &mut Random) -> TextCase {
         let place = random.below(text.len() as u64) as usize;
         let any = random.draw() as u8;
         let byte = random.pick(&[b' ', b'\n', b'#', b'*', b'0', b'9', b'x', b'\r', b'\t', any]);
-        match random.below(6) {
+        match random.below(7) {
             0..=1 => text[place] = byte,
             2 => text.insert(place, byte),
             3 => {
                 text.remove(place);
             }
             4 => text[place] ^= 1 << random.below(8),
+            5 => {
+                let piece = random.pick(&[MARK, &MARK[..2], b"\xc2\xa0", b"\0"]);
+                text.splice(place..place, piece.iter().copied());
+            }
             _ => text.truncate(place),
         }
     }
@@ -300,4 +336,18 @@ fn any_words(random: &mut Random) -> TextCase {
         writer.put(&line);
     }
     TextCase { text: keep_small(writer.text()), expected: None }
+}
+
+/// Two bytes for each of a right text, the one or the other first, with the mark of that or without.
+fn wide(random: &mut Random) -> TextCase {
+    let actions = random.between(1, 20) as usize;
+    let text = right(random, actions).text;
+    let low_first = random.percent(50);
+    let pair = |byte| if low_first { [byte, 0] } else { [0, byte] };
+    let mut wide = Vec::new();
+    if random.percent(70) {
+        wide.extend(if low_first { [0xff, 0xfe] } else { [0xfe, 0xff] });
+    }
+    wide.extend(text.into_iter().flat_map(pair));
+    TextCase { text: wide, expected: None }
 }

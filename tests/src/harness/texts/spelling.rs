@@ -31,6 +31,9 @@ pub enum Slot {
     Hold,
 }
 
+/// What stands before hexadecimal digits.
+const HEXADECIMAL: [&str; 2] = ["0x", "0X"];
+
 /// A number in one of its spellings.
 pub fn spell_number(random: &mut Random, value: u64) -> Word {
     let zeros = match random.below(10) {
@@ -39,16 +42,17 @@ pub fn spell_number(random: &mut Random, value: u64) -> Word {
         _ => 0,
     };
     let zeros = "0".repeat(zeros as usize);
+    let before = random.pick(&HEXADECIMAL);
     let digits = match random.below(6) {
-        0 => format!("0x{zeros}{value:x}"),
-        1 => format!("0x{zeros}{value:X}"),
+        0 => format!("{before}{zeros}{value:x}"),
+        1 => format!("{before}{zeros}{value:X}"),
         2 => {
             let digits = format!("{value:x}");
             let mixed = digits.chars().map(|digit| match random.percent(50) {
                 true => digit.to_ascii_uppercase(),
                 false => digit,
             });
-            format!("0x{}", mixed.collect::<String>())
+            format!("{before}{}", mixed.collect::<String>())
         }
         _ => format!("{zeros}{value}"),
     };
@@ -56,8 +60,9 @@ pub fn spell_number(random: &mut Random, value: u64) -> Word {
 }
 
 fn blanks(random: &mut Random, least: u64) -> Vec<u8> {
-    let count = match random.below(4) {
-        0 => random.between(least, least + 5),
+    let count = match random.below(80) {
+        0 => random.between(20, 70),
+        1..=19 => random.between(least, least + 5),
         _ => least,
     };
     (0..count).map(|_| random.pick(b"    \t\t\r")).collect()
@@ -86,6 +91,16 @@ pub fn join(random: &mut Random, words: &[Word]) -> Vec<u8> {
         true => words.join(&b' '),
         false => line,
     }
+}
+
+/// Words to a line that is about as long as is printed of a statement, by blanks after the first.
+pub fn stretch(random: &mut Random, words: &[Word]) -> Vec<u8> {
+    let mut line = words.join(&b' ');
+    let more = random.pick(&[63, 64, 65usize]).saturating_sub(line.len());
+    let blanks: Vec<u8> = (0..more).map(|_| random.pick(b"  \t\r")).collect();
+    let place = words[0].len();
+    line.splice(place..place, blanks);
+    line
 }
 
 fn comment(random: &mut Random) -> Vec<u8> {
@@ -126,18 +141,47 @@ fn pick_word(random: &mut Random, words: &[u8]) -> Word {
     random.pick(&words).to_vec()
 }
 
+/// A word of the grammar with bytes in it that make it none. About as long as is printed of a word,
+/// or longer, now and then.
+pub fn strange_word(random: &mut Random) -> Word {
+    let known = random.pick(&["pass", "nodes", "clock", "all", "7", "0x1F"]);
+    let length = match random.percent(30) {
+        true => random.pick(&[61, 62, 63, 64, 65, 100, 150]),
+        false => known.len(),
+    };
+    let mut word: Word = known.bytes().cycle().take(length).collect();
+    for _ in 0..random.between(1, 3) {
+        let piece = match random.below(4) {
+            0 => random.pick(&[b"\0", b"\x01", b"\x0b", b"\x1f", b"\x7f"]),
+            1 => &b"\xc2\xa0"[..],
+            2 => b"*",
+            _ => random.pick(&[&b"\xc2"[..], b"\xa0", b"\x80", b"\xff", b"\xc3\xa9", b"\"", b"\\"]),
+        };
+        let any = random.below(word.len() as u64 + 1) as usize;
+        let place = random.pick(&[any, word.len()]);
+        word.splice(place..place, piece.iter().copied());
+    }
+    word
+}
+
 /// A first word that names nothing.
 pub fn unknown_word(random: &mut Random) -> Word {
-    let words =
-        b"Pass PASS passs pas p * 0 5 0x5 nodes2 Nodes node hold all pass*6 pass, \0 pass\0 \
-        \x0bpass pass\x0c \xc2\xa0pass \xff requests nodesnodes ; -";
+    if random.percent(50) {
+        return strange_word(random);
+    }
+    let words = b"Pass PASS passs pas p * 0 5 0x5 0X5 nodes2 Nodes node hold all pass*6 pass, \0 \
+        pass\0 \x0bpass pass\x0c \xc2\xa0pass \xff requests nodesnodes ; -";
     pick_word(random, words)
 }
 
 /// A word that is no number, and not `all`.
 pub fn no_number(random: &mut Random) -> Word {
-    let words = b"x 0x 0X 0X1 0xg 0x1g 1a a ff -1 +1 1.0 1, 1h hold * ALL All all1 0x0x1 00x1 \
-        99999999999999999999z 0b1 1_000 x1 $1 \0 1\0 \xb9 / : 0x@ 0x`";
+    if random.percent(50) {
+        return strange_word(random);
+    }
+    let words =
+        b"x 0x 0X 0xg 0Xg 0x1g 0X1g 1a a ff -1 +1 1.0 1, 1h hold * ALL All all1 0x0x1 0X0X1 \
+        00x1 00X1 X1 99999999999999999999z 0b1 1_000 x1 $1 \0 1\0 \xb9 / : 0x@ 0x` 1*6 2\xc2\xa0";
     pick_word(random, words)
 }
 
@@ -173,14 +217,19 @@ pub fn too_large(random: &mut Random, slot: Slot) -> Word {
             u128::from(any) + 256,
         ]),
     };
+    let before = random.pick(&HEXADECIMAL);
     let mut digits = match random.below(4) {
-        0 => format!("0x{value:x}"),
-        1 => format!("0x{value:X}"),
+        0 => format!("{before}{value:x}"),
+        1 => format!("{before}{value:X}"),
         _ => value.to_string(),
     };
-    if random.percent(20) {
-        digits += &"0".repeat(random.between(1, 100) as usize);
-    }
+    // With any number of digits more, or as many bytes as are printed of a word, or nearly.
+    let zeros = match random.below(10) {
+        0..=1 => random.between(1, 100) as usize,
+        2 => random.pick(&[63, 64, 65usize]).saturating_sub(digits.len()),
+        _ => 0,
+    };
+    digits += &"0".repeat(zeros);
     digits.into()
 }
 

@@ -1,19 +1,25 @@
 //! Texts with one wrong line, and texts that end too early.
 
 use super::spelling::{
-    any_word, blank_line, no_number, spell_number, too_large, unknown_word, Slot, Word,
+    any_word, blank_line, no_number, spell_number, strange_word, stretch, too_large, unknown_word,
+    Slot, Word,
 };
 use super::{Expected, TextCase, Writer};
 use crate::bus::Record;
 use crate::harness::random::Random;
 use crate::harness::ways;
-use crate::notation::{Complaint, Fault, LONGEST_LINE};
+use crate::notation::{Fault, LONGEST_LINE, MARK};
 
 /// A line with something wrong in it.
 #[derive(Clone, Copy, PartialEq, Eq, Debug)]
 pub enum Wrong {
     Long(usize),
     UnknownWord,
+    /// The first line begins with a second mark, or with bytes that are nearly one.
+    SecondMark,
+    HalfMark,
+    /// A mark stands before the name or a field.
+    MarkInside,
     /// Of the action of this kind; 0 is the `nodes` line.
     Missing(u8),
     NotANumber(u8),
@@ -35,12 +41,13 @@ pub enum Wrong {
 
 impl Wrong {
     pub fn all() -> Vec<Wrong> {
-        let mut all = vec![Wrong::UnknownWord, Wrong::UnknownWord, Wrong::UnknownWord];
+        let mut all = vec![Wrong::UnknownWord; 4];
         all.extend([256, 257, 258, 511, 512, 513, 5000, 70_000].map(Wrong::Long));
-        // Kinds with fields; `change` has none that can be missing.
-        all.extend([0, 1, 2, 3, 4].map(Wrong::Missing));
-        all.extend([0, 1, 2, 3, 4, 7].map(Wrong::NotANumber));
-        all.extend([0, 1, 2, 3, 4, 7].map(Wrong::TooLarge));
+        all.extend([Wrong::SecondMark, Wrong::HalfMark, Wrong::MarkInside, Wrong::MarkInside]);
+        // Kinds with fields, once for each; `change` has none that can be missing.
+        all.extend([0, 1, 1, 1, 1, 2, 3, 3, 4].map(Wrong::Missing));
+        all.extend([0, 1, 1, 1, 1, 2, 3, 3, 4, 7].map(Wrong::NotANumber));
+        all.extend([0, 1, 1, 1, 1, 2, 3, 3, 4, 7].map(Wrong::TooLarge));
         all.extend([0, 1, 2, 3, 4, 5, 6, 7, 8, 9, 10].map(Wrong::Extra));
         all.extend([
             Wrong::RepeatWithoutCount,
@@ -62,8 +69,16 @@ impl Wrong {
 #[derive(Clone, Copy, PartialEq, Eq, Debug)]
 pub enum End {
     Empty,
+    MarkAlone,
+    HalfMarkAlone,
     BlankAlone,
     NodesAlone,
+}
+
+impl End {
+    pub fn all() -> [End; 5] {
+        [End::Empty, End::MarkAlone, End::HalfMarkAlone, End::BlankAlone, End::NodesAlone]
+    }
 }
 
 /// How many actions stand before the wrong line: around the ends of blocks often.
@@ -87,12 +102,21 @@ fn spoil_rest(random: &mut Random, words: &mut Vec<Word>, from: usize) {
 pub fn wrong_line(random: &mut Random, wrong: Wrong) -> TextCase {
     let count = before(random);
     let mut writer = Writer::new(random);
+    if matches!(wrong, Wrong::SecondMark | Wrong::HalfMark) {
+        writer.marked = wrong == Wrong::SecondMark;
+        let line = line_after_no_mark(&mut writer);
+        writer.put(&line);
+        return writer.faulty(Fault::UnknownWord);
+    }
     // A fault of the first line that is not blank.
     let first = match wrong {
         Wrong::ActionBeforeNodes | Wrong::Nodes(_) => true,
         Wrong::Missing(0) | Wrong::NotANumber(0) | Wrong::TooLarge(0) | Wrong::Extra(0) => {
             writer.random.percent(70)
         }
+        Wrong::Long(_) => writer.random.percent(30),
+        // At the very start it would be skipped.
+        Wrong::MarkInside => false,
         // A line's own fault is looked at before its place.
         Wrong::SecondNodes | Wrong::Node(_) | Wrong::Address(_) | Wrong::Ack(_) => false,
         _ => writer.random.percent(10),
@@ -115,8 +139,30 @@ pub fn wrong_line(random: &mut Random, wrong: Wrong) -> TextCase {
             break (words, fault);
         }
     };
-    writer.words(&words);
+    match fault {
+        Fault::Refused(_) if writer.random.percent(25) => {
+            let line = stretch(writer.random, &words);
+            writer.put(&line);
+        }
+        _ => writer.words(&words),
+    }
     writer.faulty(fault)
+}
+
+/// A first line whose first word begins with a mark after the text's own, or with part of one.
+fn line_after_no_mark(writer: &mut Writer) -> Vec<u8> {
+    let start = match writer.marked {
+        true => MARK,
+        false => writer.random.pick(&[
+            &b"\xef"[..],
+            b"\xef\xbb",
+            b"\xef\xbb\xbe",
+            b"\xef\xbb ",
+            b"\xef\xbf\xbb",
+            b"\xbb\xbf",
+        ]),
+    };
+    [start, writer.random.pick(&[&b"nodes 2"[..], b"", b" nodes 2", b"# nodes 2"])].concat()
 }
 
 fn long_line(writer: &mut Writer, length: usize) -> Vec<u8> {
@@ -158,11 +204,21 @@ fn places(words: &[(Slot, Word)]) -> Vec<usize> {
 
 fn wrong_words(writer: &mut Writer, wrong: Wrong) -> (Vec<Word>, Fault) {
     match wrong {
-        Wrong::Long(_) => unreachable!("not made of words"),
+        Wrong::Long(_) | Wrong::SecondMark | Wrong::HalfMark => unreachable!("not made of words"),
         Wrong::UnknownWord => {
             let mut words = vec![unknown_word(writer.random)];
             spoil_rest(writer.random, &mut words, 1);
             (words, Fault::UnknownWord)
+        }
+        Wrong::MarkInside => {
+            let kind = writer.random.pick(&[1, 2, 3, 4, 5, 7]);
+            let words = right_words(writer, kind);
+            let mut places = places(&words);
+            places.push(0);
+            let place = writer.random.pick(&places);
+            let mut words = bare(words);
+            words[place] = [MARK, &words[place]].concat();
+            (words, if place == 0 { Fault::UnknownWord } else { Fault::NotANumber })
         }
         Wrong::Missing(kind) => {
             let words = right_words(writer, kind);
@@ -243,6 +299,8 @@ fn extra(writer: &mut Writer, kind: u8) -> Vec<Word> {
     let may_repeat = kind != 0;
     if may_repeat && writer.random.percent(40) {
         words.extend([b"*".to_vec(), b"2".to_vec(), any_word(writer.random)]);
+    } else if writer.random.percent(40) {
+        words.push(strange_word(writer.random));
     } else {
         let mut word = any_word(writer.random);
         while may_repeat && word == b"*" || may_hold && word == b"hold" {
@@ -295,7 +353,16 @@ fn refused(writer: &mut Writer, record: Record) -> Vec<Word> {
 pub fn wrong_end(random: &mut Random, end: End) -> TextCase {
     let mut writer = Writer::new(random);
     let fault = match end {
-        End::Empty => Fault::NoNodesLine,
+        End::Empty | End::MarkAlone => {
+            writer.marked = end == End::MarkAlone;
+            Fault::NoNodesLine
+        }
+        End::HalfMarkAlone => {
+            writer.marked = false;
+            writer.text = MARK[..writer.random.between(1, 2) as usize].to_vec();
+            writer.lines = 1;
+            Fault::UnknownWord
+        }
         End::BlankAlone => {
             for _ in 0..writer.random.between(1, 5) {
                 let line = blank_line(writer.random);
@@ -312,6 +379,7 @@ pub fn wrong_end(random: &mut Random, end: End) -> TextCase {
             Fault::NoAction
         }
     };
-    let fault = Some(Complaint { line: writer.lines, fault });
-    TextCase { text: writer.text(), expected: Some(Expected { file: Vec::new(), fault }) }
+    let fault = Some((writer.lines, fault));
+    let lines = std::mem::take(&mut writer.said);
+    TextCase { text: writer.text(), expected: Some(Expected { file: Vec::new(), lines, fault }) }
 }
