@@ -1,5 +1,5 @@
 -- A buffer of collected text: how many bytes it holds, and which.
-use mathlib.Core.Bool.{cond}
+use mathlib.Core.Bool.{Bool, cond, _&&_, _||_}
 use mathlib.Core.List.{List}
 use Prim.Native.Nat.{ℕ, _+_, _-_}
 use lib.Dec.{leb, ltb}
@@ -22,3 +22,7 @@ unfoldable pub collected : List ℕ → ℕ → List ℕ → List ℕ
 collected out held text =
     cond (leb (length text) (length out - held)) (sets out held text)
     (cond (leb (length text) (length out)) (sets out 0 text) out)
+
+-- whether all is whole after so many bytes more: a failed write stays, bytes that have room are not written, and else it is the operating system's answer
+abbrev pub wholeAfter : Bool → ℕ → ℕ → ℕ → Bool → Bool
+wholeAfter whole size held more answer = whole && (leb more (size - held) || answer)
