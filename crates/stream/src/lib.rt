@@ -6,7 +6,7 @@ ghost use Prim.Native.Nat.{_+_, _-_, _≤_, _<_};
 ghost use lib.ListN.{length};
 ghost use lib.Seq.{sets};
 ghost use Rattle.io.specs.Counts.{Counts};
-ghost use Rattle.stream.specs.Collected.{heldOf, firstOf, heldAfter, collected, wholeAfter};
+ghost use Rattle.stream.specs.Collected.{heldOf, heldIn, firstOf, heldAfter, collected, wholeAfter};
 ghost use Rattle.stream.specs.Lines.{added, takenOf};
 use libc::STDIN_FILENO;
 use libc::STDOUT_FILENO;
@@ -60,8 +60,8 @@ fn copy_at(out: &mut [u8], at: usize, text: &[u8])
 fn add(out: &mut [u8], at: usize, text: &[u8]) -> Held
     requires { ⌜ at ≤ length (now out) ⌝ }
     ensures { λ r. ⌜ r .used ≤ length (now (out .exit)) ⌝ }
-    ensures { λ r. ⌜ r .whole ≡ wholeAfter true (length (now (out .entry))) at (length (now (text .entry))) (r .whole) ⌝ }
-    ensures { λ r. ⌜ r .used ≡ cond (r .whole) (heldAfter (length (now (out .entry))) at (length (now (text .entry)))) 0 ⌝ }
+    ensures { λ r. ⌜ r .whole ≡ wholeAfter true (now (out .entry)) at (now (text .entry)) (r .whole) ⌝ }
+    ensures { λ r. ⌜ r .used ≡ cond (r .whole) (heldAfter (now (out .entry)) at (now (text .entry))) 0 ⌝ }
     ensures { λ r. ⌜ now (out .exit) ≡ cond (r .whole) (collected (now (out .entry)) at (now (text .entry))) (now (out .entry)) ⌝ }
 {
     if text.len() <= out.len() - at {
@@ -94,18 +94,18 @@ fn add(out: &mut [u8], at: usize, text: &[u8]) -> Held
 // buffer is written out too. After a failed write the buffer is as it was, and nothing is held.
 pub fn collect(out: &mut [u8], held: Held, text: &[u8], size: usize) -> Held
     ensures { λ r. ⌜ Counts (r .used) (now (out .exit)) ⌝ }
-    ensures { λ r. ⌜ r .whole ≡ wholeAfter (held .whole) (length (now (out .entry))) (heldOf (held .used) (length (now (out .entry)))) (heldOf size (length (now (text .entry)))) (r .whole) ⌝ }
-    ensures { λ r. ⌜ r .used ≡ cond (r .whole) (heldAfter (length (now (out .entry))) (heldOf (held .used) (length (now (out .entry)))) (heldOf size (length (now (text .entry))))) 0 ⌝ }
-    ensures { λ r. ⌜ now (out .exit) ≡ cond (r .whole) (collected (now (out .entry)) (heldOf (held .used) (length (now (out .entry)))) (firstOf size (now (text .entry)))) (now (out .entry)) ⌝ }
+    ensures { λ r. ⌜ r .whole ≡ wholeAfter (held .whole) (now (out .entry)) (heldIn (now (out .entry)) held) (firstOf size (now (text .entry))) (r .whole) ⌝ }
+    ensures { λ r. ⌜ r .used ≡ cond (r .whole) (heldAfter (now (out .entry)) (heldIn (now (out .entry)) held) (firstOf size (now (text .entry)))) 0 ⌝ }
+    ensures { λ r. ⌜ now (out .exit) ≡ cond (r .whole) (collected (now (out .entry)) (heldIn (now (out .entry)) held) (firstOf size (now (text .entry)))) (now (out .entry)) ⌝ }
 {
-    if !held.whole {
-        return Held {
-            used: 0,
-            whole: false,
-        };
+    if held.whole {
+        let more = at_most(size, text.len());
+        return add(out, at_most(held.used, out.len()), &text[..more]);
     }
-    let more = at_most(size, text.len());
-    add(out, at_most(held.used, out.len()), &text[..more])
+    Held {
+        used: 0,
+        whole: held.whole,
+    }
 }
 
 // Writes what is held at the end, and answers whether every write was taken.
