@@ -175,10 +175,7 @@ pub fn take_line(buf: &[u8], place: Place, line: &mut [u8], len: usize) -> Taken
         };
     }
     Taken {
-        place: Place {
-            at: end,
-            end: end,
-        },
+        place: Place { at: end, end: end },
         len: size,
         ended: false,
     }

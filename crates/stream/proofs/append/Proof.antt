@@ -26,7 +26,7 @@ same-length : tie.Need-same-length
 same-length c = search needs
 
 returns : tie.Need-returns
-returns c = 
+returns c =
     let a = c .before .before .before .before .before .before .before .before .args in
     let size = c .before .before .before .before .before .at-most in
     let all = length-take-le (size .result) (a .more .now) (size .ensures .0 .0) in

@@ -20,7 +20,7 @@ same-length : tie.Need-same-length
 same-length c = search needs
 
 returns : tie.Need-returns
-returns c = 
+returns c =
     let a = c .before .before .before .before .before .before .args in
     rw (c .before .before .copy .ensures .1) (from-place (a .out .now) (a .text .now) (a .at) (omega arith) (omega arith))
 

@@ -41,7 +41,7 @@ same-length c = search needs
 
 returns : tie.Need-returns
 unfolding takenOf
-returns c = 
+returns c =
     let a = c .before .before .before .before .before .before .before .before .before .before .before .before .args in
     let end = c .before .before .before .before .before .before .before .before .before .at-most in
     let at = c .before .before .before .before .before .before .before .before .at-most2 in
@@ -59,7 +59,7 @@ same-length-2 c = search needs
 
 returns-2 : tie.Need-returns-2
 unfolding takenOf
-returns-2 c = 
+returns-2 c =
     let a = c .before .before .before .before .before .before .before .before .before .before .before .before .args in
     let end = c .before .before .before .before .before .before .before .before .before .at-most in
     let at = c .before .before .before .before .before .before .before .before .at-most2 in
