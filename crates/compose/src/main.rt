@@ -1,181 +1,281 @@
-// A run in plain words on standard input, its run file on standard output.
+// A run in plain words on standard input, its run file on standard output; with `--lines`, which line says how many actions.
+// Its memory is constant: a part of the text, its line under way, a buffer of output, and the composer.
 ghost use mathlib.Core.Path.{_≡_};
-ghost use Prim.Native.Nat.{_+_, _≤_};
+ghost use Prim.Native.Nat.{_≤_};
 ghost use lib.ListN.{length};
 use composer::Composer;
 use composer::Stage;
 use libc::STDERR_FILENO;
-use libc::STDIN_FILENO;
-use libc::STDOUT_FILENO;
+use stream::Held;
+use stream::Place;
 use transcript::Fault;
 
-const NEWLINE: u8 = 10;
+// What the arguments ask for.
+enum Asked {
+    Blocks,
+    Spans,
+    Nothing,
+}
 
-// The composer, how many bytes of the line under way are read, how many bytes of blocks wait to go out, and whether more input may follow.
+// The composer, what the output buffer holds, how many bytes of the line under way are read, and whether the text is over: by a fault, a failed
+// write or a failed read. The line is then still the one at fault.
 struct Reading {
     composer: Composer,
+    held: Held,
     len: usize,
-    held: usize,
-    more: bool,
+    over: bool,
 }
 
-// How many bytes of a block are written.
-fn size_of(written: bool) -> usize {
-    if written { 512 } else { 0 }
+fn is_over(stage: Stage, held: Held) -> bool {
+    composer::is_stopped(stage) || !held.whole
 }
 
-// A written block waits in the output buffer after those before it.
-fn hold(out: &mut [u8], held: usize, block: &[u8; 512], written: bool) -> usize
-    ensures { λ r. ⌜ r ≤ length (now (out .exit)) ⌝ }
+fn after(c: Composer, held: Held, len: usize) -> Reading
+    ensures { λ r. ⌜ r .len ≡ len ⌝ }
 {
-    stream::collect(out, held, block, size_of(written))
+    let stage = c.stage;
+    Reading {
+        composer: c,
+        held: held,
+        len: len,
+        over: is_over(stage, held),
+    }
 }
 
-// Puts the action under way as often as the line said. The line is then done.
-fn settle(c: Composer, out: &mut [u8], held: usize) -> Reading
-    ensures { λ r. ⌜ r .len ≡ 0 ⌝ }
+// A block that was written is held after those before it.
+fn hold(out: &mut [u8], held: Held, block: &[u8; 512], written: bool) -> Held {
+    if written {
+        return stream::collect(out, held, block, 512);
+    }
+    held
+}
+
+// How often an action is put that its line says so often: with `spans` but once, so that the text's end finds whether there was one.
+fn turns_of(left: u32, spans: bool) -> u32 {
+    if spans && left != 0 {
+        return 1;
+    }
+    left
+}
+
+// Puts the action under way, up to a fault or a failed write.
+fn put_action(c: Composer, spans: bool, out: &mut [u8], held: Held, len: usize) -> Reading
+    ensures { λ r. ⌜ r .len ≡ len ⌝ }
 {
     let mut d = c;
+    let mut kept = held;
     let mut block = [0u8; 512];
-    let mut k = held;
-    let mut left = c.left;
-    while 0 < left {
+    let mut turns = turns_of(c.left, spans);
+    while 0 < turns {
         let w = composer::put(d, &mut block);
         d = w.composer;
-        k = hold(out, k, &block, w.written);
-        left -= 1;
+        kept = hold(out, kept, &block, w.written && !spans);
+        let stage = d.stage;
+        if is_over(stage, kept) {
+            return after(d, kept, len);
+        }
+        turns -= 1;
     }
-    Reading {
-        composer: d,
-        len: 0,
-        held: k,
-        more: false,
-    }
+    d.left = 0;
+    after(d, kept, len)
 }
 
-// A byte more of the line under way; those past the longest are dropped.
-fn push(line: &mut [u8], len: usize, b: u8) -> usize
-    requires { ⌜ len ≤ length (now line) ⌝ }
-    ensures { λ r. ⌜ r ≤ length (now (line .exit)) ⌝ }
-{
-    if len < line.len() {
-        line[len] = b;
-        return len + 1;
+// How many actions the line says that the composer has taken: 1 for the `nodes` line, before which there were `n`.
+fn said(n: u8, c: Composer) -> u32 {
+    if c.left != 0 {
+        return c.left;
     }
-    len
+    if c.n != n {
+        return 1;
+    }
+    0
 }
 
-fn end_line(r: Reading, line: &[u8], out: &mut [u8]) -> Reading
+// With `spans`, a line that says something is told.
+fn hold_span(out: &mut [u8], held: Held, line: u64, times: u32, spans: bool) -> Held {
+    if !spans || times == 0 {
+        return held;
+    }
+    let mut text = [0u8; 64];
+    let end = transcript::put_span(&mut text, 0, line, times);
+    stream::collect(out, held, &text, end)
+}
+
+// The line under way has ended.
+fn end_line(r: Reading, line: &[u8], spans: bool, out: &mut [u8]) -> Reading
     requires { ⌜ r .len ≤ length (now line) ⌝ }
-    ensures { λ s. ⌜ s .len ≡ 0 ⌝ }
+    ensures { λ s. ⌜ s .len ≡ r .len ⌝ }
 {
     let c = r.composer;
-    settle(composer::feed(c, &line[..r.len]), out, r.held)
+    let len = r.len;
+    let d = composer::feed(c, &line[..len]);
+    let held = hold_span(out, r.held, d.line, said(c.n, d), spans);
+    put_action(d, spans, out, held, len)
 }
 
-// Takes the bytes of a part of the text.
-fn take_bytes(r: Reading, line: &mut [u8], out: &mut [u8], bytes: &[u8]) -> Reading
+// Takes the lines that end in a part of the text, from a place on. What follows the last of them stands in `line`.
+fn take_lines(
+    r: Reading,
+    part: &[u8],
+    from: usize,
+    line: &mut [u8],
+    spans: bool,
+    out: &mut [u8],
+) -> Reading
     requires { ⌜ r .len ≤ length (now line) ⌝ }
     ensures { λ s. ⌜ s .len ≤ length (now (line .exit)) ⌝ }
 {
     let mut s = r;
-    let mut i: usize = 0;
-    while i < bytes.len() {
-        let b = bytes[i];
-        i += 1;
-        if b == NEWLINE {
-            s = end_line(s, line, out);
-            continue;
+    let mut place = Place {
+        at: from,
+        end: part.len(),
+    };
+    while place.at < part.len() {
+        let t = stream::take_line(part, place, line, s.len);
+        s.len = t.len;
+        if !t.ended {
+            return s;
         }
-        s.len = push(line, s.len, b);
+        let next = t.place;
+        place = next;
+        s = end_line(s, line, spans, out);
+        if s.over {
+            return s;
+        }
+        s.len = 0;
     }
     s
 }
 
-// Takes what one read of the input gives, and answers whether more may follow.
-fn read_some(r: Reading, line: &mut [u8], out: &mut [u8]) -> Reading
-    requires { ⌜ r .len ≤ length (now line) ⌝ }
-    ensures { λ s. ⌜ s .len ≤ length (now (line .exit)) ⌝ }
-{
-    let mut buf = io::large_buffer();
-    let n = io::read_full(STDIN_FILENO, &mut buf);
-    let mut s = take_bytes(r, line, out, &buf[..n]);
-    let c = s.composer;
-    let stage = c.stage;
-    if composer::is_stopped(stage) {
-        s.more = false;
-        return s;
+// A byte order mark stands at the start of the first part only.
+fn text_start(part: &[u8], first: bool) -> usize {
+    if first {
+        return notation::mark_size(part);
     }
-    s.more = n == buf.len();
-    s
+    0
 }
 
-// The whole text. A proved loop has to end, so it counts its turns down from a number that no text uses up.
-fn read_text(line: &mut [u8], out: &mut [u8]) -> Reading
+// Reads part after part, and takes their lines. A proved loop has to end, so it counts its turns down from a number that no text uses up.
+fn read_text(buf: &mut [u8], line: &mut [u8], spans: bool, out: &mut [u8]) -> Reading
     ensures { λ r. ⌜ r .len ≤ length (now (line .exit)) ⌝ }
 {
-    let mut r = Reading {
-        composer: composer::start(),
-        len: 0,
-        held: 0,
-        more: true,
+    let nothing = Held {
+        used: 0,
+        whole: true,
     };
+    let mut r = after(composer::start(), nothing, 0);
+    let mut first = true;
     let mut turns = u64::MAX;
     while 0 < turns {
-        if !r.more {
+        let filled = stream::fill(buf);
+        if !filled.whole {
+            os::fail(b"compose: standard input");
+            r.over = true;
             return r;
         }
-        r = read_some(r, line, out);
+        let count = filled.count;
+        let from = text_start(&buf[..count], first);
+        r = take_lines(r, &buf[..count], from, line, spans, out);
+        if r.over || count < buf.len() {
+            return r;
+        }
+        first = false;
         turns -= 1;
     }
     r
 }
 
 // A text may end without a newline.
-fn last_line(r: Reading, line: &[u8], out: &mut [u8]) -> Reading
+fn last_line(r: Reading, line: &[u8], spans: bool, out: &mut [u8]) -> Reading
     requires { ⌜ r .len ≤ length (now line) ⌝ }
+    ensures { λ s. ⌜ s .len ≡ r .len ⌝ }
 {
     if r.len == 0 {
         return r;
     }
-    end_line(r, line, out)
+    end_line(r, line, spans, out)
 }
 
-// One line on standard error for a fault.
-fn report(c: Composer) {
+// The text's end: its last line, and the last block.
+fn finish(r: Reading, line: &[u8], spans: bool, out: &mut [u8]) -> Reading
+    requires { ⌜ r .len ≤ length (now line) ⌝ }
+    ensures { λ s. ⌜ s .len ≡ r .len ⌝ }
+{
+    if r.over {
+        return r;
+    }
+    let s = last_line(r, line, spans, out);
+    let c = s.composer;
+    let mut block = [0u8; 512];
+    let w = composer::finish(c, &mut block);
+    let d = w.composer;
+    after(d, hold(out, s.held, &block, w.written && !spans), s.len)
+}
+
+// A fault with its cause, on standard error.
+fn report_fault(n: u8, number: u64, fault: Fault, line: &[u8], text: &mut [u8])
+    requires { ⌜ length (now text) ≡ 512 ⌝ }
+{
+    let b = notation::blame(n, line, fault);
+    let cause = b.cause;
+    let from = b.from;
+    let to = b.to;
+    let end = transcript::put_fault(text, 0, number, fault, cause, &line[from..to]);
+    io::write_all(STDERR_FILENO, &text[..end]);
+}
+
+fn report(c: Composer, line: &[u8]) {
     let stage = c.stage;
     if let Stage::Stopped(fault) = stage {
-        let mut text = [0u8; 64];
-        report_fault(c.line, fault, &mut text);
+        let mut text = [0u8; 512];
+        report_fault(c.n, c.line, fault, line, &mut text);
     }
 }
 
-fn report_fault(line: u64, fault: Fault, text: &mut [u8])
-    requires { ⌜ length (now text) ≡ 64 ⌝ }
-{
-    let n = transcript::put_fault(text, 0, line, fault);
-    io::write_all(STDERR_FILENO, &text[..n]);
+// Composes the text, writes what the output buffer then holds, and says what is wrong.
+fn compose(buf: &mut [u8], line: &mut [u8], spans: bool, out: &mut [u8]) {
+    let r = read_text(buf, line, spans, out);
+    let s = finish(r, line, spans, out);
+    if !stream::flush(out, s.held) {
+        os::fail(b"compose: standard output");
+        return;
+    }
+    let c = s.composer;
+    let len = s.len;
+    report(c, &line[..len]);
 }
 
-// Writes the blocks that wait and the last one, or says what is wrong.
-fn end(r: Reading, out: &mut [u8]) {
-    let mut block = [0u8; 512];
-    let c = r.composer;
-    let w = composer::finish(c, &mut block);
-    let held = hold(out, r.held, &block, w.written);
-    io::write_all(STDOUT_FILENO, &out[..held]);
-    let d = w.composer;
-    report(d);
-}
-
-fn compose(line: &mut [u8], out: &mut [u8]) {
-    let r = read_text(line, out);
-    end(last_line(r, line, out), out);
-}
-
-fn main() {
+fn run(spans: bool) {
+    let mut buf = io::large_buffer();
     // The longest line is 255 bytes; a byte more shows that a line is longer.
     let mut line = [0u8; 256];
     let mut out = io::large_buffer();
-    compose(&mut line, &mut out);
+    compose(&mut buf, &mut line, spans, &mut out);
+}
+
+fn read_arguments() -> Asked {
+    let count = os::arg_count();
+    if count < 2 {
+        return Asked::Blocks;
+    }
+    if 2 < count {
+        return Asked::Nothing;
+    }
+    let mut word = [0u8; 8];
+    let size = os::arg(1, &mut word);
+    if check::same(&word[..size], b"--lines") {
+        return Asked::Spans;
+    }
+    Asked::Nothing
+}
+
+fn main() {
+    let asked = read_arguments();
+    match asked {
+        Asked::Blocks => run(false),
+        Asked::Spans => run(true),
+        Asked::Nothing => {
+            io::write_all(STDERR_FILENO, b"usage: compose [--lines]\n");
+        }
+    }
 }

@@ -24,7 +24,7 @@ use Rattle.notation.specs.declared.Line.{Line}
 use Rattle.notation.specs.declared.Line.the-variants as L
 use Rattle.notation.specs.Words.{limit}
 use Rattle.notation.specs.Grammar.{lineOf}
-use Rattle.notation.specs.Meaning.{Meaning, run, wrong, Said, on, off, readOn, lineOn, endOn, afterLine, meaningFrom, linesOf, meaningOf}
+use Rattle.notation.specs.Meaning.{Meaning, run, wrong, Said, on, off, readOn, lineOn, endOn, afterLine, meaningFrom, linesOf, unmarked, meaningOf}
 use Rattle.composer.specs.declared.Stage.the-variants.{Going, Stopped}
 use Rattle.composer.specs.declared.Composer.{Composer}
 use Rattle.composer.specs.declared.Wrote.{Wrote}
@@ -238,13 +238,13 @@ begins = record {
   none = λ e. refl;
 }
 
-of-text : (text : List ℕ) → actionsIn (linesOf text) ≤ 31 * bound 4 → Outcome [] (linesOf text) begin (meaningOf text)
+of-text : (text : List ℕ) → actionsIn (linesOf (unmarked text)) ≤ 31 * bound 4 → Outcome [] (linesOf (unmarked text)) begin (meaningOf text)
 unfolding meaningOf
-of-text text few = outcome (linesOf text) 0 0 [] [] begin begins (omega arith)
+of-text text few = outcome (linesOf (unmarked text)) 0 0 [] [] begin begins (omega arith)
 
-count-of : (text : List ℕ) → Sums (0 + actionsIn (linesOf text)) (meaningOf text)
+count-of : (text : List ℕ) → Sums (0 + actionsIn (linesOf (unmarked text))) (meaningOf text)
 unfolding meaningOf
-count-of text = sums (linesOf text) 0 0 []
+count-of text = sums (linesOf (unmarked text)) 0 0 []
 
 -- a text that means n and l is composed to the file of l for n nodes: the writer takes l, the bytes are that file's, and the composer has no fault
 pub composes : (text : List ℕ) (n : ℕ) (l : List Action) → meaningOf text ≡ run n l → length l ≤ 31 * bound 4
@@ -260,7 +260,7 @@ shown-small zero h = refl
 shown-small (suc i) h = rw (shown-small i (omega arith), lt-ltb i 18446744073709551615 (omega arith)) (omega arith)
 
 -- a text that is wrong leaves the composer stopped with that fault on that line
-pub stops : (text : List ℕ) (i : ℕ) (f : Fault) → meaningOf text ≡ wrong i f → actionsIn (linesOf text) ≤ 31 * bound 4 → i < 2 ^ 64
+pub stops : (text : List ℕ) (i : ℕ) (f : Fault) → meaningOf text ≡ wrong i f → actionsIn (linesOf (unmarked text)) ≤ 31 * bound 4 → i < 2 ^ 64
     → (ends text .stage ≡ Stopped f) × (ends text .line ≡ i)
 unfolding ends
 stops text i f h few small =

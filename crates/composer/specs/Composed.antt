@@ -6,7 +6,7 @@ use Rattle.record.specs.Layout.{blank}
 use Rattle.notation.specs.declared.Line.{Line}
 use Rattle.notation.specs.declared.Line.the-variants.{Blank, Nodes, Acts, Wrong}
 use Rattle.notation.specs.Grammar.{lineOf}
-use Rattle.notation.specs.Meaning.{linesOf}
+use Rattle.notation.specs.Meaning.{linesOf, unmarked}
 use Rattle.composer.specs.declared.Composer.{Composer}
 use Rattle.composer.specs.Composer.{feedOf, putOf, putHeld, finishOf, finishHeld, startOf}
 
@@ -30,7 +30,7 @@ composedFrom [] c = finishHeld c []
 composedFrom (t ∷ ts) c = putBytes (feedOf c t .left) (feedOf c t) ++ composedFrom ts (settled (feedOf c t))
 
 unfoldable pub composed : List ℕ → List ℕ
-composed text = composedFrom (linesOf text) begin
+composed text = composedFrom (linesOf (unmarked text)) begin
 
 -- the composer after a text, of which the program prints the fault
 abbrev pub endsFrom : List (List ℕ) → Composer → Composer
@@ -38,7 +38,7 @@ endsFrom [] c = finishOf c .composer
 endsFrom (t ∷ ts) c = endsFrom ts (settled (feedOf c t))
 
 unfoldable pub ends : List ℕ → Composer
-ends text = endsFrom (linesOf text) begin
+ends text = endsFrom (linesOf (unmarked text)) begin
 
 -- how many actions lines say, "`pass * 6`" being six
 abbrev pub timesSaid : Line → ℕ

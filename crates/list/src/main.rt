@@ -1,59 +1,80 @@
 // The run file on standard input as a run in plain words on standard output.
 // Its memory is constant: a block of input, the text of a block, a buffer of output, and the listing.
-ghost use Prim.Native.Nat.{_≤_};
-ghost use lib.ListN.{length};
-use libc::STDIN_FILENO;
-use libc::STDOUT_FILENO;
 use listing::Listing;
+use stream::Held;
 
 // A file has at most 2^32 blocks; one piece more shows whether bytes follow them.
 const PIECES: u64 = 4294967297;
 
-// The listing after some pieces, and how much of the output buffer is used.
+// The listing after some pieces, what the output buffer holds, and whether it is over: by a refusal, a failed write or a failed read.
 struct Went {
     listing: Listing,
-    used: usize,
+    held: Held,
+    over: bool,
 }
 
-// Reads and lists piece after piece, to the end of the input or to a refusal.
-fn list_pieces(block: &mut [u8], text: &mut [u8; 2048], out: &mut [u8]) -> Went
-    ensures { λ r. ⌜ r .used ≤ length (now (out .exit)) ⌝ }
-{
+// Reads and lists piece after piece, to the end of the input or of the listing.
+fn list_pieces(block: &mut [u8], text: &mut [u8; 2048], out: &mut [u8]) -> Went {
     let mut l = listing::start();
-    let mut used: usize = 0;
+    let mut held = Held {
+        used: 0,
+        whole: true,
+    };
     let mut pieces: u64 = 0;
     while pieces < PIECES {
-        let got = io::read_full(STDIN_FILENO, block);
-        if got == 0 {
+        let filled = stream::fill(block);
+        if !filled.whole {
+            os::fail(b"list: standard input");
             return Went {
                 listing: l,
-                used: used,
+                held: held,
+                over: true,
             };
         }
-        let fed = listing::feed(l, &block[..got], text);
-        l = fed.listing;
-        used = stream::collect(out, used, text, fed.end);
-        if fed.ended {
+        let count = filled.count;
+        if count == 0 {
             return Went {
                 listing: l,
-                used: used,
+                held: held,
+                over: false,
+            };
+        }
+        let fed = listing::feed(l, &block[..count], text);
+        l = fed.listing;
+        held = stream::collect(out, held, text, fed.end);
+        if fed.ended || !held.whole {
+            return Went {
+                listing: l,
+                held: held,
+                over: true,
             };
         }
         pieces += 1;
     }
     Went {
         listing: l,
-        used: used,
+        held: held,
+        over: false,
     }
+}
+
+// The line for the file's end, unless the listing was over before.
+fn finish(went: Went, text: &mut [u8; 2048], out: &mut [u8]) -> Held {
+    if went.over {
+        return went.held;
+    }
+    let l = went.listing;
+    let end = listing::finish(l, text);
+    stream::collect(out, went.held, text, end)
 }
 
 // Lists the input, and writes what the output buffer then holds.
 fn list(block: &mut [u8], text: &mut [u8; 2048], out: &mut [u8]) {
     let went = list_pieces(block, text, out);
-    let l = went.listing;
-    let end = listing::finish(l, text);
-    let used = stream::collect(out, went.used, text, end);
-    io::write_all(STDOUT_FILENO, &out[..used]);
+    let held = finish(went, text, out);
+    if !stream::flush(out, held) {
+        os::fail(b"list: standard output");
+    }
 }
 
 fn main() {

@@ -101,7 +101,7 @@ no-hex (b ∷ []) h d = and-no (eqb b 48)
     and-no : (p : Bool) → (p && false) ≡ false
     and-no true = refl
     and-no false = refl
-no-hex (b ∷ e ∷ l) h d = rw (ne-eqb e 120 (λ q. let low = d .2 .1 in omega arith)) (and-no (eqb b 48))
+no-hex (b ∷ e ∷ l) h d = rw (ne-eqb e 120 (λ q. let low = d .2 .1 in omega arith), ne-eqb e 88 (λ q. let low = d .2 .1 in omega arith)) (and-no (eqb b 48))
   where
     and-no : (p : Bool) → (p && false) ≡ false
     and-no true = refl

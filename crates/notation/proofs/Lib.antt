@@ -4,3 +4,4 @@ pub mod Figures
 pub mod Actions
 pub mod Texts
 pub mod Fitting
+pub mod Marks

@@ -3,3 +3,4 @@ pub mod Cursors
 pub mod Grammar
 pub mod Lines
 pub mod Meaning
+pub mod Blame

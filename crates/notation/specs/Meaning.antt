@@ -1,10 +1,10 @@
 -- What a whole text means: n and its actions, or its first fault with the line that has it.
 use mathlib.Core.Path.{_≡_}
-use mathlib.Core.Bool.{cond, not}
+use mathlib.Core.Bool.{cond, not, _&&_}
 use mathlib.Core.List.{List, [], _∷_, _++_}
 use Prim.Native.Nat.{ℕ, suc}
 use lib.Dec.{eqb}
-use lib.ListN.{length, replicate}
+use lib.ListN.{length, drop, getD, replicate}
 use Rattle.charts.specs.Numbers as N
 use Rattle.charts.specs.Valid.{isSize}
 use Rattle.charts.specs.Records.{read}
@@ -33,6 +33,13 @@ linesFrom w (b ∷ l) = cond (eqb b 10) (w ∷ linesFrom [] l) (linesFrom (w ++ 
 
 abbrev pub linesOf : List ℕ → List (List ℕ)
 linesOf text = linesFrom [] text
+
+-- "A byte order mark (bytes EF BB BF) at the very start of a text is skipped, and counts for nothing."
+unfoldable pub markSize : List ℕ → ℕ
+markSize text = cond (eqb (getD text 0 0) 239 && (eqb (getD text 1 0) 187 && eqb (getD text 2 0) 191)) 3 0
+
+abbrev pub unmarked : List ℕ → List ℕ
+unmarked text = drop (markSize text) text
 
 -- after a line: n (0 before the `nodes` line) and the actions so far, or what is wrong
 pub data Said : Type 0 where
@@ -65,7 +72,7 @@ meaningFrom [] i n l = endOn i n l
 meaningFrom (t ∷ ts) i n l = afterLine (suc i) (lineOn n l (lineOf t)) (meaningFrom ts (suc i))
 
 unfoldable pub meaningOf : List ℕ → Meaning
-meaningOf text = meaningFrom (linesOf text) 0 0 []
+meaningOf text = meaningFrom (linesOf (unmarked text)) 0 0 []
 
 -- the text that is printed for n and a list of actions
 abbrev pub actionLines : List Action → List ℕ

@@ -95,12 +95,12 @@ digitsFrom base x (b ∷ l) = cond (ltb (digitOf b) base) (digitsFrom base (capp
 unfoldable pub digitsOf : ℕ → List ℕ → Token
 digitsOf base l = digitsFrom base 0 l
 
--- `0x` alone is no number
+-- "after `0x` or `0X`, hexadecimal"; `0x` alone is no number
 abbrev pub hexOf : List ℕ → Token
 hexOf w = cond (ltb 2 (length w)) (digitsOf 16 (drop 2 w)) (Word 0)
 
 abbrev pub isHex : List ℕ → Bool
-isHex w = eqb (getD w 0 0) 48 && eqb (getD w 1 0) 120
+isHex w = eqb (getD w 0 0) 48 && (eqb (getD w 1 0) 120 || eqb (getD w 1 0) 88)
 
 -- a word that begins with a digit is a number
 unfoldable pub tokenOf : List ℕ → Token

@@ -1,10 +1,17 @@
-// Runs in plain words: what each line says that people write.
+// Runs in plain words: what each line says that people write, and what of it is to blame where it is wrong.
+mod causes;
 mod grammar;
 mod words;
 
 ghost use mathlib.Core.Path.{_≡_};
+ghost use Prim.Native.Nat.{_≤_};
+ghost use lib.ListN.{length};
 ghost use Rattle.notation.specs.Grammar.{lineOf};
+ghost use Rattle.notation.specs.Meaning.{markSize};
+ghost use Rattle.notation.specs.Blame.{blameOf};
+use causes::Mark;
 use charts::Action;
+use transcript::Cause;
 use transcript::Fault;
 
 // What a line says: nothing, the number of nodes, an action with how often it is repeated, or what is wrong.
@@ -23,4 +30,43 @@ pub fn parse_line(line: &[u8]) -> Line
         return Line::Wrong(Fault::LongLine);
     }
     grammar::parse(line)
+}
+
+// How many bytes of a text are its byte order mark.
+pub fn mark_size(text: &[u8]) -> usize
+    ensures { λ r. ⌜ r ≡ markSize (now (text .entry)) ⌝ }
+    ensures { λ r. ⌜ r ≤ length (now (text .entry)) ⌝ }
+{
+    if text.len() < 3 {
+        return 0;
+    }
+    if text[0] != 239 {
+        return 0;
+    }
+    if text[1] != 187 {
+        return 0;
+    }
+    if text[2] != 191 {
+        return 0;
+    }
+    3
+}
+
+// Why a line has a fault, and the part of it that is to blame: its bytes from a place up to another. n is the number of nodes.
+pub struct Blamed {
+    pub cause: Cause,
+    pub from: usize,
+    pub to: usize,
+}
+
+// Asked of a line with that fault.
+pub fn blame(n: u8, line: &[u8], fault: Fault) -> Blamed
+    ensures { λ r. ⌜ r ≡ blameOf n (now (line .entry)) fault ⌝ }
+    ensures { λ r. ⌜ (r .from ≤ r .to) × (r .to ≤ length (now (line .entry))) ⌝ }
+{
+    if 255 < line.len() {
+        return causes::nowhere(Cause::Plain);
+    }
+    let end = causes::first_in(Mark::Comment, line);
+    causes::blame_in(n, &line[..end], fault)
 }

@@ -35,7 +35,7 @@ pub(crate) enum Step {
     Read(Token, Cursor),
 }
 
-fn is_blank(b: u8) -> bool
+pub(crate) fn is_blank(b: u8) -> bool
     ensures { λ r. ⌜ r ≡ isBlank b ⌝ }
 {
     if b == b' ' {
@@ -179,7 +179,10 @@ fn is_hex(w: &[u8]) -> bool
     if w.len() < 2 {
         return false;
     }
-    w[1] == b'x'
+    if w[1] == b'x' {
+        return true;
+    }
+    w[1] == b'X'
 }
 
 // What a word is.

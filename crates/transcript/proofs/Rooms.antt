@@ -6,17 +6,17 @@ use mathlib.Core.List.{List}
 use borrow.Author.Tests.{leb-true, not-true, not-false, le-leb}
 use lib.Dec.{leb}
 use lib.ListN.{length}
-use Rattle.transcript.specs.Room.{longest, endOf, putLine, Puts}
+use Rattle.transcript.specs.Room.{longest, endIn, putIn, endOf, putLine, Puts}
 
-pub fits : {b : Bool} (at size : ℕ) → b ≡ leb (at + longest) size → not b ≡ false → at + longest ≤ size
-fits {b} at size e h = leb-true (at + longest) size (sym e ∙ not-false b h)
+pub fits : {b : Bool} (room at size : ℕ) → b ≡ leb (at + room) size → not b ≡ false → at + room ≤ size
+fits {b} room at size e h = leb-true (at + room) size (sym e ∙ not-false b h)
 
 -- with room the line is put; without it nothing is
-pub put-in-room : {buf after : List ℕ} {at end : ℕ} {text : List ℕ} → at + longest ≤ length buf → Puts buf at text end after → (end ≡ endOf buf at text) × (after ≡ putLine buf at text)
-put-in-room {buf} {at = at} h p = rw (le-leb (at + longest) (length buf) h) (p .ends, p .holds)
+pub put-in-room : {buf after : List ℕ} {at end : ℕ} {text : List ℕ} (room : ℕ) → at + room ≤ length buf → Puts buf at text end after → (end ≡ endIn room buf at text) × (after ≡ putIn room buf at text)
+put-in-room {buf} {at = at} room h p = rw (le-leb (at + room) (length buf) h) (p .ends, p .holds)
 
-pub no-room : {b : Bool} (buf : List ℕ) (at : ℕ) (text : List ℕ) → b ≡ leb (at + longest) (length buf) → not b ≡ true → (at ≡ endOf buf at text) × (buf ≡ putLine buf at text)
-no-room {b} buf at text e h = rw (sym e ∙ not-true b h) (refl, refl)
+pub no-room : {b : Bool} (room : ℕ) (buf : List ℕ) (at : ℕ) (text : List ℕ) → b ≡ leb (at + room) (length buf) → not b ≡ true → (at ≡ endIn room buf at text) × (buf ≡ putIn room buf at text)
+no-room {b} room buf at text e h = rw (sym e ∙ not-true b h) (refl, refl)
 
 -- the other way round: what a caller knows whose buffer has room
 pub puts-line : {buf after : List ℕ} {at end : ℕ} {text : List ℕ} → at + longest ≤ length buf → end ≡ endOf buf at text → after ≡ putLine buf at text → Puts buf at text end after

@@ -2,3 +2,4 @@ pub mod Text
 pub mod Lines
 pub mod Room
 pub mod Printed
+pub mod Faults

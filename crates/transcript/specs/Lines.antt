@@ -36,3 +36,7 @@ doneLine count = line (ascii "done" ∷ decimal count ∷ [])
 -- "`refused`, the count accepted so far and the number"
 unfoldable pub refusedLine : ℕ → ℕ → List ℕ
 refusedLine count number = line (ascii "refused" ∷ decimal count ∷ decimal number ∷ [])
+
+-- "the line's number and how many actions it says"
+unfoldable pub spanLine : ℕ → ℕ → List ℕ
+spanLine number times = line (decimal number ∷ decimal times ∷ [])

@@ -5,8 +5,6 @@ use Prim.Native.Nat.{ℕ}
 use lib.Dec.{eqb}
 use Rattle.charts.specs.Signals.{everybody}
 use Rattle.charts.specs.declared.Action.{Action}
-use Rattle.transcript.specs.declared.Fault.{Fault}
-use Rattle.transcript.specs.declared.Fault.the-variants as F
 use Rattle.transcript.specs.Text.{ascii, decimal}
 use Rattle.transcript.specs.Lines.{line}
 
@@ -51,22 +49,3 @@ wordsFor a =
 
 unfoldable pub actionLine : Action → List ℕ
 actionLine a = line (wordsFor a)
-
--- what is wrong, in words; the paper's number for what the writer would refuse
-unfoldable pub faultWords : Fault → List ℕ
-faultWords F.UnknownWord = ascii "unknown word"
-faultWords F.NotNumber = ascii "not a number"
-faultWords F.TooLarge = ascii "number too large"
-faultWords F.MissingField = ascii "missing field"
-faultWords F.ExtraField = ascii "extra field"
-faultWords F.NoRepeat = ascii "repeat of 0"
-faultWords F.LongLine = ascii "line over 255 bytes"
-faultWords F.NodesMissing = ascii "no nodes line"
-faultWords F.NodesAgain = ascii "a second nodes line"
-faultWords F.NoAction = ascii "no action"
-faultWords F.TooMany = ascii "too many actions"
-faultWords (F.Refused k) = ascii "refused " ++ decimal k
-
--- "one line on standard error that names the line of the text and what is wrong there"
-unfoldable pub faultLine : ℕ → Fault → List ℕ
-faultLine number f = ascii "line " ++ (decimal number ++ (ascii ": " ++ (faultWords f ++ (10 ∷ []))))

@@ -16,16 +16,25 @@ pub record Puts (buf : List ℕ) (at : ℕ) (text : List ℕ) (end : ℕ) (after
   pub ends : end ≡ at + length text
   pub holds : after ≡ put buf at text
 
--- the room that each line finds, whatever its own length: 64 bytes hold the longest
+-- the room that each line of a run or an action finds, whatever its own length: 64 bytes hold the longest; and a fault's line with its cause
 abbrev pub longest : ℕ
 longest = 64
 
-abbrev pub hasRoom : List ℕ → ℕ → Bool
-hasRoom buf at = leb (at + longest) (length buf)
+abbrev pub longestFault : ℕ
+longestFault = 512
+
+abbrev pub hasRoom : ℕ → List ℕ → ℕ → Bool
+hasRoom room buf at = leb (at + room) (length buf)
 
 -- a line put into a buffer: where the text ends, and what the buffer then holds. Without room nothing is put.
+abbrev pub endIn : ℕ → List ℕ → ℕ → List ℕ → ℕ
+endIn room buf at text = cond (hasRoom room buf at) (at + length text) at
+
+abbrev pub putIn : ℕ → List ℕ → ℕ → List ℕ → List ℕ
+putIn room buf at text = cond (hasRoom room buf at) (put buf at text) buf
+
 abbrev pub endOf : List ℕ → ℕ → List ℕ → ℕ
-endOf buf at text = cond (hasRoom buf at) (at + length text) at
+endOf buf at text = endIn longest buf at text
 
 abbrev pub putLine : List ℕ → ℕ → List ℕ → List ℕ
-putLine buf at text = cond (hasRoom buf at) (put buf at text) buf
+putLine buf at text = putIn longest buf at text

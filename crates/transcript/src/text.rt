@@ -99,7 +99,7 @@ fn put_node(buf: &mut [u8], at: usize, node: u8, word: &[u8]) -> usize
 }
 
 // A header or a datum as the line's last word.
-fn put_last(buf: &mut [u8], at: usize, x: u32) -> usize
+pub(crate) fn put_last(buf: &mut [u8], at: usize, x: u32) -> usize
     requires { ⌜ at + 11 ≤ length (now buf) ⌝ }
     ensures { λ r. ⌜ r ≤ at + 11 ⌝ }
     ensures { λ r. ⌜ Puts (now (buf .entry)) at (line (decimal x ∷ [])) r (now (buf .exit)) ⌝ }

@@ -1,12 +1,11 @@
-// An action's line and a fault's line put into a buffer from a place on. Each function answers the place after what it put.
+// An action's line put into a buffer from a place on. Each function answers the place after what it put.
 ghost use mathlib.Core.List.{[], _∷_, _++_};
 ghost use Prim.Native.Nat.{_+_, _≤_};
 ghost use lib.ListN.{length};
 ghost use Rattle.transcript.specs.Text.{ascii, decimal};
 ghost use Rattle.transcript.specs.Lines.{line};
 ghost use Rattle.transcript.specs.Room.{Puts};
-ghost use Rattle.transcript.specs.Printed.{requestWords, respondWords, addressWord, holdWord, lineAfter, changeWord, actionLine, faultWords, faultLine};
-use crate::Fault;
+ghost use Rattle.transcript.specs.Printed.{requestWords, respondWords, addressWord, holdWord, lineAfter, changeWord, actionLine};
 use crate::text;
 use charts::Action;
 
@@ -100,40 +99,4 @@ pub(crate) fn put_action(buf: &mut [u8], at: usize, a: Action) -> usize
         10 => text::put_word(buf, at, b"reset\n"),
         _ => text::put_byte(buf, at, b'\n'),
     }
-}
-
-fn put_fault_words(buf: &mut [u8], at: usize, fault: Fault) -> usize
-    requires { ⌜ at + 20 ≤ length (now buf) ⌝ }
-    ensures { λ r. ⌜ r ≤ at + 20 ⌝ }
-    ensures { λ r. ⌜ Puts (now (buf .entry)) at (faultWords fault) r (now (buf .exit)) ⌝ }
-{
-    match fault {
-        Fault::UnknownWord => text::put_word(buf, at, b"unknown word"),
-        Fault::NotNumber => text::put_word(buf, at, b"not a number"),
-        Fault::TooLarge => text::put_word(buf, at, b"number too large"),
-        Fault::MissingField => text::put_word(buf, at, b"missing field"),
-        Fault::ExtraField => text::put_word(buf, at, b"extra field"),
-        Fault::NoRepeat => text::put_word(buf, at, b"repeat of 0"),
-        Fault::LongLine => text::put_word(buf, at, b"line over 255 bytes"),
-        Fault::NodesMissing => text::put_word(buf, at, b"no nodes line"),
-        Fault::NodesAgain => text::put_word(buf, at, b"a second nodes line"),
-        Fault::NoAction => text::put_word(buf, at, b"no action"),
-        Fault::TooMany => text::put_word(buf, at, b"too many actions"),
-        Fault::Refused(k) => {
-            let b = text::put_word(buf, at, b"refused ");
-            text::put_u8(buf, b, k)
-        }
-    }
-}
-
-pub(crate) fn put_fault(buf: &mut [u8], at: usize, number: u64, fault: Fault) -> usize
-    requires { ⌜ at + 64 ≤ length (now buf) ⌝ }
-    ensures { λ r. ⌜ r ≤ at + 64 ⌝ }
-    ensures { λ r. ⌜ Puts (now (buf .entry)) at (faultLine number fault) r (now (buf .exit)) ⌝ }
-{
-    let b = text::put_word(buf, at, b"line ");
-    let c = text::put_u64(buf, b, number);
-    let d = text::put_word(buf, c, b": ");
-    let e = put_fault_words(buf, d, fault);
-    text::put_byte(buf, e, b'\n')
 }

@@ -1,5 +1,4 @@
 use mathlib.Core.Path.{sym}
-use lib.ListN.{length}
 use lib.Seq.{length-take-le}
 use borrow.Author.Needs.{needs}
 use Rattle.compose.proofs.end_line.Statement.{statement}
@@ -11,8 +10,14 @@ slice-aggregate-feed c = sym (length-take-le _ _ (search needs))
 feed-requires : tie.Need-feed-requires
 feed-requires c κs = search needs
 
-settle-requires : tie.Need-settle-requires
-settle-requires c κs = search needs
+said-requires : tie.Need-said-requires
+said-requires c κs = search needs
+
+hold-span-requires : tie.Need-hold-span-requires
+hold-span-requires c κs = search needs
+
+put-action-requires : tie.Need-put-action-requires
+put-action-requires c κs = search needs
 
 same-length : tie.Need-same-length
 same-length c = search needs
@@ -22,4 +27,12 @@ returns c = search needs
 
 pub end-line-spec : {M : Type 1} → statement M
 end-line-spec =
-    tie.close (tie.spec slice-aggregate-feed feed-requires settle-requires same-length returns)
+    tie.close
+    (tie.spec
+    slice-aggregate-feed
+    feed-requires
+    said-requires
+    hold-span-requires
+    put-action-requires
+    same-length
+    returns)

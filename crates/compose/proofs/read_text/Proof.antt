@@ -6,16 +6,28 @@ use Rattle.compose.proofs.read_text.Statement.{statement}
 use Rattle.compose.proofs.read_text.Tie as tie
 
 abbrev Inv-loop : tie.InvT-loop
-Inv-loop line₀ out₀ r₀ turns₀ line out r turns = (r .len ≤ length line) × (length line ≡ length line₀) × (length out ≡ length out₀)
+Inv-loop buf₀ line₀ spans out₀ r₀ first₀ turns₀ t12 buf line out r first turns = (r .len ≤ length line) × (length buf ≡ length buf₀) × (length line ≡ length line₀) × (length out ≡ length out₀)
 
 abbrev μ-loop : tie.MeasureT-loop
-μ-loop line₀ out₀ r₀ turns₀ line out r turns = turns
+μ-loop buf₀ line₀ spans out₀ r₀ first₀ turns₀ t12 buf line out r first turns = turns
 
 start-requires : tie.Need-start-requires Inv-loop μ-loop
 start-requires c κs = search needs
 
+after-requires : tie.Need-after-requires Inv-loop μ-loop
+after-requires c κs = search needs
+
 loop-holds : tie.Need-loop-holds Inv-loop μ-loop
 loop-holds c = search needs
+
+fill-requires : tie.Need-fill-requires Inv-loop μ-loop
+fill-requires c κs = search needs
+
+slice-aggregate-fail : tie.Need-slice-aggregate-fail Inv-loop μ-loop
+slice-aggregate-fail c = search needs
+
+fail-requires : tie.Need-fail-requires Inv-loop μ-loop
+fail-requires c κs = search needs
 
 same-length : tie.Need-same-length Inv-loop μ-loop
 same-length c = search needs
@@ -23,11 +35,41 @@ same-length c = search needs
 same-length-2 : tie.Need-same-length-2 Inv-loop μ-loop
 same-length-2 c = search needs
 
+same-length-3 : tie.Need-same-length-3 Inv-loop μ-loop
+same-length-3 c = search needs
+
 returns : tie.Need-returns Inv-loop μ-loop
 returns c = search needs
 
-read-some-requires : tie.Need-read-some-requires Inv-loop μ-loop
-read-some-requires c κs = search needs
+slice-reshare-prefix-text-start : tie.Need-slice-reshare-prefix-text-start Inv-loop μ-loop
+slice-reshare-prefix-text-start c = search needs
+
+slice-aggregate-text-start : tie.Need-slice-aggregate-text-start Inv-loop μ-loop
+slice-aggregate-text-start c = search needs
+
+text-start-requires : tie.Need-text-start-requires Inv-loop μ-loop
+text-start-requires c κs = search needs
+
+slice-reshare-prefix-take-lines : tie.Need-slice-reshare-prefix-take-lines Inv-loop μ-loop
+slice-reshare-prefix-take-lines c = search needs
+
+slice-aggregate-take-lines : tie.Need-slice-aggregate-take-lines Inv-loop μ-loop
+slice-aggregate-take-lines c = search needs
+
+take-lines-requires : tie.Need-take-lines-requires Inv-loop μ-loop
+take-lines-requires c κs = search needs
+
+same-length-4 : tie.Need-same-length-4 Inv-loop μ-loop
+same-length-4 c = search needs
+
+same-length-5 : tie.Need-same-length-5 Inv-loop μ-loop
+same-length-5 c = search needs
+
+same-length-6 : tie.Need-same-length-6 Inv-loop μ-loop
+same-length-6 c = search needs
+
+returns-2 : tie.Need-returns-2 Inv-loop μ-loop
+returns-2 c = search needs
 
 sub-turns : tie.Need-sub-turns Inv-loop μ-loop
 sub-turns c = search needs
@@ -38,14 +80,17 @@ loop-less c = search needs
 loop-again : tie.Need-loop-again Inv-loop μ-loop
 loop-again c = search needs
 
-same-length-3 : tie.Need-same-length-3 Inv-loop μ-loop
-same-length-3 c = search needs
+same-length-7 : tie.Need-same-length-7 Inv-loop μ-loop
+same-length-7 c = search needs
 
-same-length-4 : tie.Need-same-length-4 Inv-loop μ-loop
-same-length-4 c = search needs
+same-length-8 : tie.Need-same-length-8 Inv-loop μ-loop
+same-length-8 c = search needs
 
-returns-2 : tie.Need-returns-2 Inv-loop μ-loop
-returns-2 c = search needs
+same-length-9 : tie.Need-same-length-9 Inv-loop μ-loop
+same-length-9 c = search needs
+
+returns-3 : tie.Need-returns-3 Inv-loop μ-loop
+returns-3 c = search needs
 
 pub read-text-spec : {M : Type 1} → statement M
 read-text-spec =
@@ -54,14 +99,29 @@ read-text-spec =
     Inv-loop
     μ-loop
     start-requires
+    after-requires
     loop-holds
+    fill-requires
+    slice-aggregate-fail
+    fail-requires
     same-length
     same-length-2
+    same-length-3
     returns
-    read-some-requires
+    slice-reshare-prefix-text-start
+    slice-aggregate-text-start
+    text-start-requires
+    slice-reshare-prefix-take-lines
+    slice-aggregate-take-lines
+    take-lines-requires
+    same-length-4
+    same-length-5
+    same-length-6
+    returns-2
     sub-turns
     loop-less
     loop-again
-    same-length-3
-    same-length-4
-    returns-2)
+    same-length-7
+    same-length-8
+    same-length-9
+    returns-3)

@@ -4,6 +4,18 @@ use borrow.Author.Needs.{needs}
 use Rattle.compose.proofs.report_fault.Statement.{statement}
 use Rattle.compose.proofs.report_fault.Tie as tie
 
+blame-requires : tie.Need-blame-requires
+blame-requires c κs = search needs
+
+sub-put-fault : tie.Need-sub-put-fault
+sub-put-fault c = search needs
+
+part-put-fault-start : tie.Need-part-put-fault-start
+part-put-fault-start c = search needs
+
+part-put-fault-end : tie.Need-part-put-fault-end
+part-put-fault-end c = search needs
+
 put-fault-requires : tie.Need-put-fault-requires
 put-fault-requires c κs = search needs
 
@@ -26,6 +38,10 @@ pub report-fault-spec : {M : Type 1} → statement M
 report-fault-spec =
     tie.close
     (tie.spec
+    blame-requires
+    sub-put-fault
+    part-put-fault-start
+    part-put-fault-end
     put-fault-requires
     slice-reshare-prefix-write-all
     slice-aggregate-write-all

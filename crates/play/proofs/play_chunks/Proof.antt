@@ -1,15 +1,15 @@
-use Prim.Native.Nat.{_-_}
 use mathlib.Core.Path.{_≡_}
-use borrow.Author.Needs.{needs}
+use Prim.Native.Nat.{_-_}
 use lib.ListN.{length}
+use borrow.Author.Needs.{needs}
 use Rattle.play.proofs.play_chunks.Statement.{statement}
 use Rattle.play.proofs.play_chunks.Tie as tie
 
 abbrev Inv-loop : tie.InvT-loop
-Inv-loop input₀ text₀ out₀ p₀ used₀ chunks₀ input text out p used chunks = (length out ≡ length out₀) × (length input ≡ length input₀)
+Inv-loop input₀ text₀ out₀ p₀ held₀ chunks₀ t10 input text out p held chunks = (length out ≡ length out₀) × (length input ≡ length input₀)
 
 abbrev μ-loop : tie.MeasureT-loop
-μ-loop input₀ text₀ out₀ p₀ used₀ chunks₀ input text out p used chunks = 33554433 - chunks
+μ-loop input₀ text₀ out₀ p₀ held₀ chunks₀ t10 input text out p held chunks = 33554433 - chunks
 
 start-requires : tie.Need-start-requires Inv-loop μ-loop
 start-requires c κs = search needs
@@ -17,17 +17,14 @@ start-requires c κs = search needs
 loop-holds : tie.Need-loop-holds Inv-loop μ-loop
 loop-holds c = search needs
 
-read-full-requires : tie.Need-read-full-requires Inv-loop μ-loop
-read-full-requires c κs = search needs
+fill-requires : tie.Need-fill-requires Inv-loop μ-loop
+fill-requires c κs = search needs
 
-slice-reshare-prefix-play-input : tie.Need-slice-reshare-prefix-play-input Inv-loop μ-loop
-slice-reshare-prefix-play-input c = search needs
+slice-aggregate-fail : tie.Need-slice-aggregate-fail Inv-loop μ-loop
+slice-aggregate-fail c = search needs
 
-slice-aggregate-play-input : tie.Need-slice-aggregate-play-input Inv-loop μ-loop
-slice-aggregate-play-input c = search needs
-
-play-input-requires : tie.Need-play-input-requires Inv-loop μ-loop
-play-input-requires c κs = search needs
+fail-requires : tie.Need-fail-requires Inv-loop μ-loop
+fail-requires c κs = search needs
 
 same-length : tie.Need-same-length Inv-loop μ-loop
 same-length c = search needs
@@ -37,6 +34,15 @@ same-length-2 c = search needs
 
 returns : tie.Need-returns Inv-loop μ-loop
 returns c = search needs
+
+slice-reshare-prefix-play-input : tie.Need-slice-reshare-prefix-play-input Inv-loop μ-loop
+slice-reshare-prefix-play-input c = search needs
+
+slice-aggregate-play-input : tie.Need-slice-aggregate-play-input Inv-loop μ-loop
+slice-aggregate-play-input c = search needs
+
+play-input-requires : tie.Need-play-input-requires Inv-loop μ-loop
+play-input-requires c κs = search needs
 
 same-length-3 : tie.Need-same-length-3 Inv-loop μ-loop
 same-length-3 c = search needs
@@ -73,13 +79,15 @@ play-chunks-spec =
     μ-loop
     start-requires
     loop-holds
-    read-full-requires
-    slice-reshare-prefix-play-input
-    slice-aggregate-play-input
-    play-input-requires
+    fill-requires
+    slice-aggregate-fail
+    fail-requires
     same-length
     same-length-2
     returns
+    slice-reshare-prefix-play-input
+    slice-aggregate-play-input
+    play-input-requires
     same-length-3
     same-length-4
     returns-2

@@ -1,15 +1,15 @@
-use Prim.Native.Nat.{_-_, _≤_}
 use mathlib.Core.Path.{_≡_}
-use borrow.Author.Needs.{needs}
+use Prim.Native.Nat.{_≤_, _-_}
 use lib.ListN.{length}
+use borrow.Author.Needs.{needs}
 use Rattle.play.proofs.play_input.Statement.{statement}
 use Rattle.play.proofs.play_input.Tie as tie
 
 abbrev Inv-loop : tie.InvT-loop
-Inv-loop input text₀ out₀ used q₀ filled₀ at₀ text out q filled at = (at ≤ length input) × (length out ≡ length out₀)
+Inv-loop input text₀ out₀ q₀ kept₀ at₀ text out q kept at = (at ≤ length input) × (length out ≡ length out₀)
 
 abbrev μ-loop : tie.MeasureT-loop
-μ-loop input text₀ out₀ used q₀ filled₀ at₀ text out q filled at = length input - at
+μ-loop input text₀ out₀ q₀ kept₀ at₀ text out q kept at = length input - at
 
 loop-holds : tie.Need-loop-holds Inv-loop μ-loop
 loop-holds c = search needs

@@ -1,16 +1,14 @@
-use mathlib.Core.Path.{sym, ap, _∙_}
-use lib.ListN.{length}
+use mathlib.Core.Path.{refl, sym}
 use lib.Seq.{length-take-le}
 use borrow.Author.Needs.{needs}
-use Rattle.stream.specs.Collected.{heldAfter}
 use Rattle.stream.proofs.collect.Statement.{statement}
 use Rattle.stream.proofs.collect.Tie as tie
 
-held-requires : tie.Need-held-requires
-held-requires c κs = search needs
+at-most-requires : tie.Need-at-most-requires
+at-most-requires c κs = search needs
 
-held-requires-2 : tie.Need-held-requires-2
-held-requires-2 c κs = search needs
+at-most-requires-2 : tie.Need-at-most-requires-2
+at-most-requires-2 c κs = search needs
 
 slice-aggregate-add : tie.Need-slice-aggregate-add
 slice-aggregate-add c = sym (length-take-le _ _ (search needs))
@@ -23,14 +21,22 @@ same-length c = search needs
 
 returns : tie.Need-returns
 returns c =
-    let a = c .before .before .before .before .before .before .before .before .before .args in
-    let more = c .before .before .before .before .before .before .held in
-    let at = c .before .before .before .before .held2 in
+    let more = c .before .before .before .before .before .before .at-most in
+    let at = c .before .before .before .before .at-most2 in
     let put = c .before .before .add .ensures in
-    let long = length-take-le (more .result) (a .text .now) (more .ensures .0) in
-    rw (← at .ensures .1, ← more .ensures .1) ((put .0, sym (length-take-le _ _ (put .0))), (put .1 .0 ∙ ap (heldAfter (length (a .out .now)) (at .result)) long, put .1 .1))
+    rw (c .before .before .before .before .before .before .before .if1 .taken, ← at .ensures .1, ← more .ensures .1) ((put .0, sym (length-take-le _ _ (put .0))), put .1)
+
+returns-2 : tie.Need-returns-2
+returns-2 c = (search needs, rw (c .if1 .left) (refl, (refl, refl)))
 
 pub collect-spec : {M : Type 1} → statement M
 collect-spec =
     tie.close
-    (tie.spec held-requires held-requires-2 slice-aggregate-add add-requires same-length returns)
+    (tie.spec
+    at-most-requires
+    at-most-requires-2
+    slice-aggregate-add
+    add-requires
+    same-length
+    returns
+    returns-2)

@@ -1,3 +1,4 @@
+use Rattle.transcript.specs.Room.{longest}
 use lib.ListN.{length}
 use Rattle.transcript.specs.Lines.{doneLine}
 use Rattle.transcript.proofs.Rooms.{fits, put-in-room, no-room}
@@ -13,7 +14,7 @@ has-room-requires c κs = search needs
 returns : tie.Need-returns
 returns c =
     let a = c .before .before .before .args in
-    (omega arith, no-room (a .out .now) (a .at) _ (c .before .has-room .ensures) (c .if1 .taken))
+    (omega arith, no-room longest (a .out .now) (a .at) _ (c .before .has-room .ensures) (c .if1 .taken))
 
 slice-aggregate-put-word : tie.Need-slice-aggregate-put-word
 slice-aggregate-put-word c = search needs
@@ -21,17 +22,17 @@ slice-aggregate-put-word c = search needs
 put-word-requires : tie.Need-put-word-requires
 put-word-requires c κs =
     let a = c .before .before .before .before .before .args in
-    let room = fits (a .at) (length (a .out .now)) (c .before .before .before .has-room .ensures) (c .before .before .if1 .left) in omega arith
+    let room = fits longest (a .at) (length (a .out .now)) (c .before .before .before .has-room .ensures) (c .before .before .if1 .left) in omega arith
 
 put-u64-requires : tie.Need-put-u64-requires
 put-u64-requires c κs =
     let a = c .before .before .before .before .before .before .before .before .before .args in
-    let room = fits (a .at) (length (a .out .now)) (c .before .before .before .before .before .before .before .has-room .ensures) (c .before .before .before .before .before .before .if1 .left) in omega arith
+    let room = fits longest (a .at) (length (a .out .now)) (c .before .before .before .before .before .before .before .has-room .ensures) (c .before .before .before .before .before .before .if1 .left) in omega arith
 
 put-byte-requires : tie.Need-put-byte-requires
 put-byte-requires c κs =
     let a = c .before .before .before .before .before .before .before .before .before .before .before .before .before .args in
-    let room = fits (a .at) (length (a .out .now)) (c .before .before .before .before .before .before .before .before .before .before .before .has-room .ensures) (c .before .before .before .before .before .before .before .before .before .before .if1 .left) in omega arith
+    let room = fits longest (a .at) (length (a .out .now)) (c .before .before .before .before .before .before .before .before .before .before .before .has-room .ensures) (c .before .before .before .before .before .before .before .before .before .before .if1 .left) in omega arith
 
 same-length : tie.Need-same-length
 same-length c = search needs
@@ -40,9 +41,9 @@ returns-2 : tie.Need-returns-2
 unfolding doneLine
 returns-2 c =
     let a = c .before .before .before .before .before .before .before .before .before .before .before .before .before .before .before .before .args in
-    let room = fits (a .at) (length (a .out .now)) (c .before .before .before .before .before .before .before .before .before .before .before .before .before .before .has-room .ensures) (c .before .before .before .before .before .before .before .before .before .before .before .before .before .if1 .left) in (
+    let room = fits longest (a .at) (length (a .out .now)) (c .before .before .before .before .before .before .before .before .before .before .before .before .before .before .has-room .ensures) (c .before .before .before .before .before .before .before .before .before .before .before .before .before .if1 .left) in (
       omega arith,
-      put-in-room room (and-then (c .before .before .before .before .before .before .before .before .before .before .put-word .ensures)
+      put-in-room longest room (and-then (c .before .before .before .before .before .before .before .before .before .before .put-word .ensures)
           (and-then (c .before .before .before .before .before .before .put-u64 .ensures .1)
           (c .before .before .put-byte .ensures))),
     )

@@ -1,3 +1,4 @@
+use Rattle.transcript.specs.Room.{longest}
 use Rattle.transcript.proofs.Said.{line-said}
 use Rattle.transcript.specs.Text.{decimal}
 use lib.ListN.{length}
@@ -15,32 +16,32 @@ has-room-requires c κs = search needs
 returns : tie.Need-returns
 returns c =
     let a = c .before .before .before .args in
-    (omega arith, no-room (a .out .now) (a .at) _ (c .before .has-room .ensures) (c .if1 .taken))
+    (omega arith, no-room longest (a .out .now) (a .at) _ (c .before .has-room .ensures) (c .if1 .taken))
 
 put-u64-requires : tie.Need-put-u64-requires
 put-u64-requires c κs =
     let a = c .before .before .before .before .args in
-    let room = fits (a .at) (length (a .out .now)) (c .before .before .has-room .ensures) (c .before .if1 .left) in omega arith
+    let room = fits longest (a .at) (length (a .out .now)) (c .before .before .has-room .ensures) (c .before .if1 .left) in omega arith
 
 put-byte-requires : tie.Need-put-byte-requires
 put-byte-requires c κs =
     let a = c .before .before .before .before .before .before .before .before .args in
-    let room = fits (a .at) (length (a .out .now)) (c .before .before .before .before .before .before .has-room .ensures) (c .before .before .before .before .before .if1 .left) in omega arith
+    let room = fits longest (a .at) (length (a .out .now)) (c .before .before .before .before .before .before .has-room .ensures) (c .before .before .before .before .before .if1 .left) in omega arith
 
 put-u8-requires : tie.Need-put-u8-requires
 put-u8-requires c κs =
     let a = c .before .before .before .before .before .before .before .before .before .before .before .before .args in
-    let room = fits (a .at) (length (a .out .now)) (c .before .before .before .before .before .before .before .before .before .before .has-room .ensures) (c .before .before .before .before .before .before .before .before .before .if1 .left) in omega arith
+    let room = fits longest (a .at) (length (a .out .now)) (c .before .before .before .before .before .before .before .before .before .before .has-room .ensures) (c .before .before .before .before .before .before .before .before .before .if1 .left) in omega arith
 
 put-byte-requires-2 : tie.Need-put-byte-requires-2
 put-byte-requires-2 c κs =
     let a = c .before .before .before .before .before .before .before .before .before .before .before .before .before .before .before .before .args in
-    let room = fits (a .at) (length (a .out .now)) (c .before .before .before .before .before .before .before .before .before .before .before .before .before .before .has-room .ensures) (c .before .before .before .before .before .before .before .before .before .before .before .before .before .if1 .left) in omega arith
+    let room = fits longest (a .at) (length (a .out .now)) (c .before .before .before .before .before .before .before .before .before .before .before .before .before .before .has-room .ensures) (c .before .before .before .before .before .before .before .before .before .before .before .before .before .if1 .left) in omega arith
 
 put-report-requires : tie.Need-put-report-requires
 put-report-requires c κs =
     let a = c .before .before .before .before .before .before .before .before .before .before .before .before .before .before .before .before .before .before .before .before .args in
-    let room = fits (a .at) (length (a .out .now)) (c .before .before .before .before .before .before .before .before .before .before .before .before .before .before .before .before .before .before .has-room .ensures) (c .before .before .before .before .before .before .before .before .before .before .before .before .before .before .before .before .before .if1 .left) in omega arith
+    let room = fits longest (a .at) (length (a .out .now)) (c .before .before .before .before .before .before .before .before .before .before .before .before .before .before .before .before .before .before .has-room .ensures) (c .before .before .before .before .before .before .before .before .before .before .before .before .before .before .before .before .before .if1 .left) in omega arith
 
 same-length : tie.Need-same-length
 same-length c = search needs
@@ -49,9 +50,9 @@ returns-2 : tie.Need-returns-2
 unfolding lineOf
 returns-2 c =
     let a = c .before .before .before .before .before .before .before .before .before .before .before .before .before .before .before .before .before .before .before .before .before .before .before .args in
-    let room = fits (a .at) (length (a .out .now)) (c .before .before .before .before .before .before .before .before .before .before .before .before .before .before .before .before .before .before .before .before .before .has-room .ensures) (c .before .before .before .before .before .before .before .before .before .before .before .before .before .before .before .before .before .before .before .before .if1 .left) in (
+    let room = fits longest (a .at) (length (a .out .now)) (c .before .before .before .before .before .before .before .before .before .before .before .before .before .before .before .before .before .before .before .before .before .has-room .ensures) (c .before .before .before .before .before .before .before .before .before .before .before .before .before .before .before .before .before .before .before .before .if1 .left) in (
       omega arith,
-      rw (line-said (decimal (a .kind)) (a .report)) (put-in-room room (and-then (c .before .before .before .before .before .before .before .before .before .before .before .before .before .before .before .before .before .before .put-u64 .ensures .1)
+      rw (line-said (decimal (a .kind)) (a .report)) (put-in-room longest room (and-then (c .before .before .before .before .before .before .before .before .before .before .before .before .before .before .before .before .before .before .put-u64 .ensures .1)
           (and-then (c .before .before .before .before .before .before .before .before .before .before .before .before .before .before .put-byte .ensures)
           (and-then (c .before .before .before .before .before .before .before .before .before .before .put-u8 .ensures .1)
           (and-then (c .before .before .before .before .before .before .put-byte2 .ensures)

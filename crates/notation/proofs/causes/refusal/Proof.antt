@@ -1,0 +1,66 @@
+use Rattle.notation.specs.Blame.{refusalOf}
+use borrow.Author.Tests.{eq-eqb, ne-eqb}
+use borrow.Author.Needs.{needs}
+use Rattle.notation.proofs.causes.refusal.Statement.{statement}
+use Rattle.notation.proofs.causes.refusal.Tie as tie
+
+enum-told : tie.Need-enum-told
+enum-told c = search needs
+
+enum-told-2 : tie.Need-enum-told-2
+enum-told-2 c = search needs
+
+returns : tie.Need-returns
+unfolding refusalOf
+returns c = simp (c .before .enum-told2 .given .1, eq-eqb _ _ (c .if1 .taken))
+
+enum-known-said : tie.Need-enum-known-said
+enum-known-said c = search needs
+
+returns-2 : tie.Need-returns-2
+unfolding refusalOf
+returns-2 c = simp (c .before .before .said .given .1, eq-eqb _ _ (c .if2 .taken))
+
+returns-3 : tie.Need-returns-3
+unfolding refusalOf
+returns-3 c = simp (c .before .before .before .said .given .1, ne-eqb _ _ (c .before .if2 .left), eq-eqb _ _ (c .if3 .taken))
+
+returns-4 : tie.Need-returns-4
+unfolding refusalOf
+returns-4 c = simp (c .before .before .before .before .said .given .1, ne-eqb _ _ (c .before .before .if2 .left), ne-eqb _ _ (c .before .if3 .left), eq-eqb _ _ (c .if4 .taken))
+
+enum-told-3 : tie.Need-enum-told-3
+enum-told-3 c = search needs
+
+returns-5 : tie.Need-returns-5
+unfolding refusalOf
+returns-5 c = simp (c .enum-told .given .1)
+
+returns-6 : tie.Need-returns-6
+unfolding refusalOf
+returns-6 c = simp (c .before .enum-told2 .given .1, ne-eqb _ _ (c .if1 .left))
+
+returns-7 : tie.Need-returns-7
+unfolding refusalOf
+returns-7 c = simp (c .before .before .before .before .said .given .1, ne-eqb _ _ (c .before .before .if2 .left), ne-eqb _ _ (c .before .if3 .left), ne-eqb _ _ (c .if4 .left))
+
+returns-8 : tie.Need-returns-8
+unfolding refusalOf
+returns-8 c = simp (c .enum-told3 .given .1)
+
+pub refusal-spec : {M : Type 1} → statement M
+refusal-spec =
+    tie.close
+    (tie.spec
+    enum-told
+    enum-told-2
+    returns
+    enum-known-said
+    returns-2
+    returns-3
+    returns-4
+    enum-told-3
+    returns-5
+    returns-6
+    returns-7
+    returns-8)

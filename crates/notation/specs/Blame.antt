@@ -1,0 +1,130 @@
+-- Which part of a line is to blame for its fault, and why.
+use mathlib.Core.Bool.{Bool, true, false, cond, not, _&&_, _||_}
+use mathlib.Core.List.{List, [], _∷_}
+use Prim.Native.Nat.{ℕ, zero, suc, _+_}
+use lib.Dec.{eqb, ltb, leb}
+use lib.ListN.{length, take, getD}
+use Rattle.charts.specs.Numbers as N
+use Rattle.transcript.specs.declared.Fault.{Fault}
+use Rattle.transcript.specs.declared.Fault.the-variants as F
+use Rattle.transcript.specs.declared.Cause.{Cause}
+use Rattle.transcript.specs.declared.Cause.the-variants as C
+use Rattle.notation.specs.declared.Line.{Line}
+use Rattle.notation.specs.declared.Line.the-variants.{Blank, Nodes, Acts, Wrong}
+use Rattle.notation.specs.declared.Blamed.{Blamed}
+use Rattle.notation.specs.declared.words.Token.{Token}
+use Rattle.notation.specs.declared.words.Token.the-variants.{Word, Number, Large}
+use Rattle.notation.specs.declared.causes.Mark.{Mark}
+use Rattle.notation.specs.declared.causes.Mark.the-variants as M
+use Rattle.notation.specs.declared.causes.Span.{Span}
+use Rattle.notation.specs.Words.{isBlank, isHash, tokensOf}
+use Rattle.notation.specs.Grammar.{lineOf}
+
+-- a line that is wrong, whatever follows: one that misses a field may go on
+abbrev pub isMissing : Fault → Bool
+isMissing F.UnknownWord = false
+isMissing F.NotNumber = false
+isMissing F.TooLarge = false
+isMissing F.MissingField = true
+isMissing F.ExtraField = false
+isMissing F.NoRepeat = false
+isMissing F.LongLine = false
+isMissing F.NodesMissing = false
+isMissing F.NodesAgain = false
+isMissing F.NoAction = false
+isMissing F.TooMany = false
+isMissing (F.Refused k) = false
+
+unfoldable pub isWrong : Line → Bool
+isWrong Blank = false
+isWrong (Nodes n) = false
+isWrong (Acts a k) = false
+isWrong (Wrong f) = not (isMissing f)
+
+-- a word ends with the byte at a place: that is no blank, and the line ends after it or a blank follows
+unfoldable pub endsWith : List ℕ → ℕ → Bool
+endsWith line i = not (isBlank (getD line i 0)) && (leb (length line) (i + 1) || isBlank (getD line (i + 1) 0))
+
+-- what may stand at a place: a comment's `#`, a blank, a byte of a word, the last byte of a word with which "the line is wrong already"
+unfoldable pub isAt : Mark → List ℕ → ℕ → Bool
+isAt M.Comment line i = isHash (getD line i 0)
+isAt M.Space line i = isBlank (getD line i 0)
+isAt M.Text line i = not (isBlank (getD line i 0))
+isAt M.Fatal line i = endsWith line i && isWrong (lineOf (take (i + 1) line))
+
+-- the first such place from i on, in k places, or the place after them
+abbrev pub firstFrom : Mark → List ℕ → ℕ → ℕ → ℕ
+firstFrom m line zero i = i
+firstFrom m line (suc k) i = cond (isAt m line i) i (firstFrom m line k (suc i))
+
+unfoldable pub firstIn : Mark → List ℕ → ℕ
+firstIn m line = firstFrom m line (length line) 0
+
+-- the place after the last such place before a place, or 0
+abbrev pub afterLast : Mark → List ℕ → ℕ → ℕ
+afterLast m line zero = 0
+afterLast m line (suc i) = cond (isAt m line i) (suc i) (afterLast m line i)
+
+-- how many words end before a place
+abbrev pub wordsBefore : List ℕ → ℕ → ℕ
+wordsBefore line zero = 0
+wordsBefore line (suc i) = cond (endsWith line i) (suc (wordsBefore line i)) (wordsBefore line i)
+
+abbrev pub span : ℕ → ℕ → Span
+span from to = record { from = from; to = to }
+
+-- "WORD is the first word with which the line is wrong already."
+unfoldable pub wordIn : List ℕ → Span
+wordIn line =
+    cond (ltb (firstIn M.Fatal line) (length line)) (span (afterLast M.Space line (firstIn M.Fatal line)) (firstIn M.Fatal line + 1))
+    (span 0 0)
+
+-- "STATEMENT is the line from its first word to its last"
+unfoldable pub statementIn : List ℕ → Span
+statementIn line = cond (ltb (firstIn M.Text line) (length line)) (span (firstIn M.Text line) (afterLast M.Text line (length line))) (span 0 0)
+
+-- the name of a line's first word
+abbrev pub kindIn : List Token → ℕ
+kindIn [] = 0
+kindIn (Word k ∷ l) = k
+kindIn (Number x ∷ l) = 0
+kindIn (Large ∷ l) = 0
+
+abbrev pub kindOf : List ℕ → ℕ
+kindOf line = kindIn (tokensOf line)
+
+-- what a refusal by number k is about
+unfoldable pub refusalOf : ℕ → ℕ → Line → Cause
+refusalOf n k Blank = C.Plain
+refusalOf n k (Nodes m) = cond (eqb k N.wrong-size) C.Size C.Plain
+refusalOf n k (Acts a t) =
+    cond (eqb k N.wrong-node) (C.Node (a .node) n)
+    (cond (eqb k N.wrong-address) (C.Address (a .address) n)
+    (cond (eqb k N.wrong-answer) (C.Ack (a .ack))
+    C.Plain))
+refusalOf n k (Wrong f) = C.Plain
+
+abbrev pub blamed : Cause → Span → Blamed
+blamed cause s = record { cause = cause; from = s .from; to = s .to }
+
+abbrev pub placeOf : List ℕ → ℕ
+placeOf line = wordsBefore line (wordIn line .from)
+
+-- the table of "What can be wrong", for a line without its comment
+unfoldable pub blameIn : ℕ → List ℕ → Fault → Blamed
+blameIn n line F.UnknownWord = blamed C.Quoted (wordIn line)
+blameIn n line F.NotNumber = blamed (C.Field (kindOf line) (placeOf line)) (wordIn line)
+blameIn n line F.TooLarge = blamed (C.Large (kindOf line) (placeOf line)) (wordIn line)
+blameIn n line F.MissingField = blamed (C.Missing (kindOf line) (wordsBefore line (length line))) (span 0 0)
+blameIn n line F.ExtraField = blamed C.Quoted (wordIn line)
+blameIn n line F.NoRepeat = blamed C.Plain (span 0 0)
+blameIn n line F.LongLine = blamed C.Plain (span 0 0)
+blameIn n line F.NodesMissing = blamed C.Plain (span 0 0)
+blameIn n line F.NodesAgain = blamed C.Plain (span 0 0)
+blameIn n line F.NoAction = blamed C.Plain (span 0 0)
+blameIn n line F.TooMany = blamed C.Plain (span 0 0)
+blameIn n line (F.Refused k) = blamed (refusalOf n k (lineOf line)) (statementIn line)
+
+-- a line over 255 bytes is only too long
+unfoldable pub blameOf : ℕ → List ℕ → Fault → Blamed
+blameOf n line f = cond (ltb 255 (length line)) (blamed C.Plain (span 0 0)) (blameIn n (take (firstIn M.Comment line) line) f)

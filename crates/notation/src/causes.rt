@@ -1,0 +1,274 @@
+// Which part of a line is to blame for its fault, and why.
+ghost use mathlib.Core.Path.{_≡_};
+ghost use Prim.Native.Nat.{_<_, _≤_};
+ghost use lib.ListN.{length};
+ghost use Rattle.notation.specs.Blame.{isMissing, isWrong, endsWith, isAt, firstIn, afterLast, wordsBefore, wordIn, statementIn, kindOf, refusalOf, span, blamed, blameIn};
+use crate::Blamed;
+use crate::Line;
+use crate::words;
+use crate::words::Cursor;
+use crate::words::Step;
+use crate::words::Token;
+use transcript::Cause;
+use transcript::Fault;
+
+const WRONG_SIZE: u8 = 1;
+
+const WRONG_NODE: u8 = 4;
+
+const WRONG_ADDRESS: u8 = 5;
+
+const WRONG_ANSWER: u8 = 6;
+
+// What is looked for in a line: a comment's `#`, a blank, a byte of a word, the last byte of a word with which the line is wrong already.
+pub(crate) enum Mark {
+    Comment,
+    Space,
+    Text,
+    Fatal,
+}
+
+// A part of a line.
+struct Span {
+    from: usize,
+    to: usize,
+}
+
+fn is_missing(fault: Fault) -> bool
+    ensures { λ r. ⌜ r ≡ isMissing fault ⌝ }
+{
+    match fault {
+        Fault::UnknownWord => false,
+        Fault::NotNumber => false,
+        Fault::TooLarge => false,
+        Fault::MissingField => true,
+        Fault::ExtraField => false,
+        Fault::NoRepeat => false,
+        Fault::LongLine => false,
+        Fault::NodesMissing => false,
+        Fault::NodesAgain => false,
+        Fault::NoAction => false,
+        Fault::TooMany => false,
+        Fault::Refused(_) => false,
+    }
+}
+
+fn is_wrong(said: Line) -> bool
+    ensures { λ r. ⌜ r ≡ isWrong said ⌝ }
+{
+    match said {
+        Line::Blank => false,
+        Line::Nodes(_) => false,
+        Line::Acts(_, _) => false,
+        Line::Wrong(fault) => !is_missing(fault),
+    }
+}
+
+fn ends_with(line: &[u8], i: usize) -> bool
+    requires { ⌜ i < length (now line) ⌝ }
+    ensures { λ r. ⌜ r ≡ endsWith (now (line .entry)) i ⌝ }
+{
+    if words::is_blank(line[i]) {
+        return false;
+    }
+    if line.len() <= i + 1 {
+        return true;
+    }
+    words::is_blank(line[i + 1])
+}
+
+fn is_at(m: Mark, line: &[u8], i: usize) -> bool
+    requires { ⌜ i < length (now line) ⌝ }
+    ensures { λ r. ⌜ r ≡ isAt m (now (line .entry)) i ⌝ }
+{
+    match m {
+        Mark::Comment => line[i] == b'#',
+        Mark::Space => words::is_blank(line[i]),
+        Mark::Text => !words::is_blank(line[i]),
+        Mark::Fatal => {
+            if !ends_with(line, i) {
+                return false;
+            }
+            let end = i + 1;
+            is_wrong(crate::parse_line(&line[..end]))
+        }
+    }
+}
+
+pub(crate) fn first_in(m: Mark, line: &[u8]) -> usize
+    ensures { λ r. ⌜ r ≡ firstIn m (now (line .entry)) ⌝ }
+    ensures { λ r. ⌜ r ≤ length (now (line .entry)) ⌝ }
+{
+    let mut i: usize = 0;
+    while i < line.len() {
+        if is_at(m, line, i) {
+            return i;
+        }
+        i += 1;
+    }
+    i
+}
+
+// The place after the last mark before `end`.
+fn after_last(m: Mark, line: &[u8], end: usize) -> usize
+    requires { ⌜ end ≤ length (now line) ⌝ }
+    ensures { λ r. ⌜ r ≡ afterLast m (now (line .entry)) end ⌝ }
+    ensures { λ r. ⌜ r ≤ end ⌝ }
+{
+    let mut i = end;
+    while 0 < i {
+        if is_at(m, line, i - 1) {
+            return i;
+        }
+        i -= 1;
+    }
+    0
+}
+
+// How many words end before `end`.
+fn words_before(line: &[u8], end: usize) -> usize
+    requires { ⌜ end ≤ length (now line) ⌝ }
+    ensures { λ r. ⌜ r ≡ wordsBefore (now (line .entry)) end ⌝ }
+    ensures { λ r. ⌜ r ≤ end ⌝ }
+{
+    let mut k: usize = 0;
+    let mut i: usize = 0;
+    while i < end {
+        if ends_with(line, i) {
+            k += 1;
+        }
+        i += 1;
+    }
+    k
+}
+
+fn word_in(line: &[u8]) -> Span
+    ensures { λ r. ⌜ r ≡ wordIn (now (line .entry)) ⌝ }
+    ensures { λ r. ⌜ (r .from ≤ r .to) × (r .to ≤ length (now (line .entry))) ⌝ }
+{
+    let last = first_in(Mark::Fatal, line);
+    if last < line.len() {
+        return Span {
+            from: after_last(Mark::Space, line, last),
+            to: last + 1,
+        };
+    }
+    Span { from: 0, to: 0 }
+}
+
+fn statement_in(line: &[u8]) -> Span
+    ensures { λ r. ⌜ r ≡ statementIn (now (line .entry)) ⌝ }
+    ensures { λ r. ⌜ (r .from ≤ r .to) × (r .to ≤ length (now (line .entry))) ⌝ }
+{
+    let first = first_in(Mark::Text, line);
+    if first < line.len() {
+        return Span {
+            from: first,
+            to: after_last(Mark::Text, line, line.len()),
+        };
+    }
+    Span { from: 0, to: 0 }
+}
+
+// The name of the line's first word.
+fn kind_of(line: &[u8]) -> u8
+    ensures { λ r. ⌜ r ≡ kindOf (now (line .entry)) ⌝ }
+{
+    let step = words::next_word(line, Cursor { at: 0 });
+    match step {
+        Step::End => 0,
+        Step::Read(t, _) => match t {
+            Token::Word(k) => k,
+            Token::Number(_) => 0,
+            Token::Large => 0,
+        },
+    }
+}
+
+// What a refusal by number k is about.
+fn refusal(n: u8, k: u8, said: Line) -> Cause
+    ensures { λ r. ⌜ r ≡ refusalOf n k said ⌝ }
+{
+    match said {
+        Line::Blank => Cause::Plain,
+        Line::Nodes(_) => {
+            if k == WRONG_SIZE {
+                return Cause::Size;
+            }
+            Cause::Plain
+        }
+        Line::Acts(a, _) => {
+            if k == WRONG_NODE {
+                return Cause::Node(a.node, n);
+            }
+            if k == WRONG_ADDRESS {
+                return Cause::Address(a.address, n);
+            }
+            if k == WRONG_ANSWER {
+                return Cause::Ack(a.ack);
+            }
+            Cause::Plain
+        }
+        Line::Wrong(_) => Cause::Plain,
+    }
+}
+
+fn at_span(cause: Cause, s: Span) -> Blamed
+    ensures { λ r. ⌜ r ≡ blamed cause s ⌝ }
+{
+    Blamed {
+        cause: cause,
+        from: s.from,
+        to: s.to,
+    }
+}
+
+pub(crate) fn nowhere(cause: Cause) -> Blamed
+    ensures { λ r. ⌜ r ≡ blamed cause (span 0 0) ⌝ }
+{
+    Blamed {
+        cause: cause,
+        from: 0,
+        to: 0,
+    }
+}
+
+// The place of a word among the line's words.
+fn place_of(line: &[u8], s: Span) -> u8
+    requires { ⌜ length (now line) ≤ 255 ⌝ }
+    requires { ⌜ s .from ≤ length (now line) ⌝ }
+    ensures { λ r. ⌜ r ≡ wordsBefore (now (line .entry)) (s .from) ⌝ }
+{
+    words_before(line, s.from) as u8
+}
+
+// A line without its comment.
+pub(crate) fn blame_in(n: u8, line: &[u8], fault: Fault) -> Blamed
+    requires { ⌜ length (now line) ≤ 255 ⌝ }
+    ensures { λ r. ⌜ r ≡ blameIn n (now (line .entry)) fault ⌝ }
+    ensures { λ r. ⌜ (r .from ≤ r .to) × (r .to ≤ length (now (line .entry))) ⌝ }
+{
+    match fault {
+        Fault::UnknownWord => at_span(Cause::Quoted, word_in(line)),
+        Fault::NotNumber => {
+            let w = word_in(line);
+            at_span(Cause::Field(kind_of(line), place_of(line, w)), w)
+        }
+        Fault::TooLarge => {
+            let w = word_in(line);
+            at_span(Cause::Large(kind_of(line), place_of(line, w)), w)
+        }
+        Fault::MissingField => nowhere(Cause::Missing(
+            kind_of(line),
+            words_before(line, line.len()) as u8,
+        )),
+        Fault::ExtraField => at_span(Cause::Quoted, word_in(line)),
+        Fault::NoRepeat => nowhere(Cause::Plain),
+        Fault::LongLine => nowhere(Cause::Plain),
+        Fault::NodesMissing => nowhere(Cause::Plain),
+        Fault::NodesAgain => nowhere(Cause::Plain),
+        Fault::NoAction => nowhere(Cause::Plain),
+        Fault::TooMany => nowhere(Cause::Plain),
+        Fault::Refused(k) => at_span(refusal(n, k, crate::parse_line(line)), statement_in(line)),
+    }
+}
