@@ -5,3 +5,4 @@ pub mod Actions
 pub mod Texts
 pub mod Fitting
 pub mod Marks
+pub mod Told
