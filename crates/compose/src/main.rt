@@ -10,11 +10,11 @@ use stream::Held;
 use stream::Place;
 use transcript::Fault;
 
-// What the arguments ask for.
+// What the arguments ask for: the run file, the spans of the lines, or what there is not.
 enum Asked {
     Blocks,
     Spans,
-    Nothing,
+    Unknown,
 }
 
 // The composer, what the output buffer holds, how many bytes of the line under way are read, and whether the text is over: by a fault, a failed
@@ -26,6 +26,7 @@ struct Reading {
     over: bool,
 }
 
+// A fault or a failed write ends a text.
 fn is_over(stage: Stage, held: Held) -> bool {
     composer::is_stopped(stage) || !held.whole
 }
@@ -259,14 +260,14 @@ fn read_arguments() -> Asked {
         return Asked::Blocks;
     }
     if 2 < count {
-        return Asked::Nothing;
+        return Asked::Unknown;
     }
     let mut word = [0u8; 8];
     let size = os::arg(1, &mut word);
     if check::same(&word[..size], b"--lines") {
         return Asked::Spans;
     }
-    Asked::Nothing
+    Asked::Unknown
 }
 
 fn main() {
@@ -274,7 +275,7 @@ fn main() {
     match asked {
         Asked::Blocks => run(false),
         Asked::Spans => run(true),
-        Asked::Nothing => {
+        Asked::Unknown => {
             io::write_all(STDERR_FILENO, b"usage: compose [--lines]\n");
         }
     }

@@ -1,7 +1,7 @@
 // Standard output and input in large parts, by way of buffers that the caller lends, and lines in such a buffer.
 // A failed write or read is told, never passed over. Whether one fails is the operating system's answer, which no contract can say: `whole` holds it.
 ghost use mathlib.Core.Path.{_≡_};
-ghost use mathlib.Core.Bool.{true, false, cond, _&&_};
+ghost use mathlib.Core.Bool.{true, cond, _&&_};
 ghost use Prim.Native.Nat.{_+_, _-_, _≤_, _<_};
 ghost use lib.ListN.{length};
 ghost use lib.Seq.{sets};
@@ -19,7 +19,7 @@ pub struct Held {
     pub whole: bool,
 }
 
-// How many bytes were read, and whether every read was answered: if not, more may have followed.
+// How many bytes were read, and whether no read failed: after a failed one more may follow.
 pub struct Filled {
     pub count: usize,
     pub whole: bool,
@@ -38,6 +38,7 @@ pub struct Taken {
     pub ended: bool,
 }
 
+// The smaller of two sizes.
 fn at_most(used: usize, size: usize) -> usize
     ensures { λ r. ⌜ (r ≤ size) × (r ≤ used) ⌝ }
     ensures { λ r. ⌜ r ≡ heldOf used size ⌝ }

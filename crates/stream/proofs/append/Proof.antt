@@ -1,7 +1,4 @@
-use Prim.Native.Nat.{_≤_}
-use lib.ListN.{length}
 use mathlib.Core.Path.{refl, sym}
-use native.Mathlib.Omega.{arith}
 use lib.Seq.{length-take-le}
 use borrow.Author.Needs.{needs}
 use Rattle.stream.proofs.append.Statement.{statement}
