@@ -47,7 +47,7 @@ abbrev pub shownBytes : List ℕ → List ℕ
 shownBytes [] = []
 shownBytes (b ∷ l) = shownByte b ++ shownBytes l
 
--- "After 64 bytes `..` stands for the rest."
+-- "Of one that is longer than 64 bytes the first 64 are printed and then `..`"
 unfoldable pub shown : List ℕ → List ℕ
 shown w = cond (ltb 64 (length w)) (shownBytes (take 64 w) ++ ascii "..") (shownBytes w)
 
@@ -61,7 +61,7 @@ abbrev pub has : Trait → List ℕ → Bool
 has t [] = false
 has t (b ∷ l) = hasHere t (b ∷ l) || has t l
 
--- "After the closing quote of a WORD follows, where one of these holds, the first of them"
+-- "Right after the closing quote of a WORD […] follows where one of these holds of the whole word the first of them"
 unfoldable pub hint : List ℕ → List ℕ
 hint w =
     cond (has T.Control w) (ascii " (no plain text: UTF-16, or a binary file)")
