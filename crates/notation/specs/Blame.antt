@@ -20,7 +20,7 @@ use Rattle.notation.specs.declared.causes.Span.{Span}
 use Rattle.notation.specs.Words.{isBlank, isHash, tokensOf}
 use Rattle.notation.specs.Grammar.{lineOf}
 
--- a line that is wrong, whatever follows: one that misses a field may go on
+-- "The line ends where a field should stand."
 abbrev pub isMissing : Fault → Bool
 isMissing F.UnknownWord = false
 isMissing F.NotNumber = false
@@ -35,6 +35,7 @@ isMissing F.NoAction = false
 isMissing F.TooMany = false
 isMissing (F.Refused k) = false
 
+-- "wrong already", whatever follows: what misses a field may still get it
 unfoldable pub isWrong : Line → Bool
 isWrong Blank = false
 isWrong (Nodes n) = false
@@ -110,7 +111,7 @@ blamed cause s = record { cause = cause; from = s .from; to = s .to }
 abbrev pub placeOf : List ℕ → ℕ
 placeOf line = wordsBefore line (wordIn line .from)
 
--- the table of "What can be wrong", for a line without its comment
+-- the cause by the table of "What can be wrong", for a line without its comment
 unfoldable pub blameIn : ℕ → List ℕ → Fault → Blamed
 blameIn n line F.UnknownWord = blamed C.Quoted (wordIn line)
 blameIn n line F.NotNumber = blamed (C.Field (kindOf line) (placeOf line)) (wordIn line)

@@ -22,6 +22,13 @@ pub enum Line {
     Wrong(Fault),
 }
 
+// Why a line has a fault, and the part of it that is to blame: its bytes from a place up to another.
+pub struct Blamed {
+    pub cause: Cause,
+    pub from: usize,
+    pub to: usize,
+}
+
 // What a line says, without its newline.
 pub fn parse_line(line: &[u8]) -> Line
     ensures { λ r. ⌜ r ≡ lineOf (now (line .entry)) ⌝ }
@@ -52,14 +59,7 @@ pub fn mark_size(text: &[u8]) -> usize
     3
 }
 
-// Why a line has a fault, and the part of it that is to blame: its bytes from a place up to another. n is the number of nodes.
-pub struct Blamed {
-    pub cause: Cause,
-    pub from: usize,
-    pub to: usize,
-}
-
-// Asked of a line with that fault.
+// What is to blame for the fault of a line. n is the number of nodes.
 pub fn blame(n: u8, line: &[u8], fault: Fault) -> Blamed
     ensures { λ r. ⌜ r ≡ blameOf n (now (line .entry)) fault ⌝ }
     ensures { λ r. ⌜ (r .from ≤ r .to) × (r .to ≤ length (now (line .entry))) ⌝ }

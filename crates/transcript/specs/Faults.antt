@@ -1,4 +1,4 @@
--- What `compose` says of a fault: "`line K: `, what is wrong in line K of the text, […] and, where more can be said, a colon, a space and the cause".
+-- What `compose` says of a fault, and why: "What can be wrong".
 use mathlib.Core.Bool.{Bool, false, cond, _&&_, _||_}
 use mathlib.Core.List.{List, [], _∷_, _++_}
 use Prim.Native.Nat.{ℕ, _+_, _-_, _/_, _%_}
@@ -72,11 +72,11 @@ hint w =
 abbrev pub quoted : List ℕ → List ℕ
 quoted w = ascii "\"" ++ (shown w ++ (ascii "\"" ++ hint w))
 
--- the fields by number: those below 3 are of 32 bits
+-- the field of an action that has one alone; after it stands the count
 abbrev pub ofFirst : ℕ → ℕ → ℕ
 ofFirst place field = cond (eqb place 1) field 0
 
--- which field stands at a place of an action's line (0 is its first word). Where none is left, it is the count.
+-- which field stands at a place of an action's line (0 is its first word), by its number: 0 is the count, 1 and 2 are header and data, the others take a byte
 unfoldable pub fieldOf : ℕ → ℕ → ℕ
 fieldOf kind place =
     cond (eqb kind 1) (cond (eqb place 1) 3 (cond (eqb place 2) 4 (cond (eqb place 3) 1 (cond (eqb place 4) 2 0))))
@@ -114,7 +114,7 @@ wordOf w field = ascii ": " ++ (quoted w ++ (ascii ", " ++ fieldWords field))
 abbrev pub noneOf : List ℕ → List ℕ → ℕ → List ℕ
 noneOf w what x = ascii ": " ++ (shown w ++ (what ++ decimal x))
 
--- the cause, w being its WORD or STATEMENT; "n − 1" is the largest node
+-- the table's second column, w being the WORD or STATEMENT
 unfoldable pub causeWords : Cause → List ℕ → List ℕ
 causeWords C.Plain w = []
 causeWords C.Quoted w = ascii ": " ++ quoted w
@@ -126,5 +126,6 @@ causeWords (C.Node node n) w = noneOf w (ascii ": no node ") node ++ (ascii ", n
 causeWords (C.Address address n) w = noneOf w (ascii ": no address ") address ++ (ascii ", addresses are 0 to " ++ (decimal (n - 1) ++ ascii " and all"))
 causeWords (C.Ack ack) w = noneOf w (ascii ": no acknowledgement ") ack ++ ascii ", they are 0 to 15"
 
+-- "`line K: `, what is wrong […] and, where more can be said, a colon, a space and the cause"
 unfoldable pub faultLine : ℕ → Fault → Cause → List ℕ → List ℕ
 faultLine number f cause w = ascii "line " ++ (decimal number ++ (ascii ": " ++ (faultWords f ++ (causeWords cause w ++ (10 ∷ [])))))
