@@ -5,10 +5,10 @@ ghost use Prim.Native.Nat.{_≤_};
 ghost use lib.ListN.{length};
 use composer::Composer;
 use composer::Stage;
+use faults::Fault;
 use libc::STDERR_FILENO;
 use stream::Held;
 use stream::Place;
-use transcript::Fault;
 
 // What the arguments ask for: the run file, the spans of the lines, or what there is not.
 enum Asked {
@@ -221,7 +221,7 @@ fn report_fault(n: u8, number: u64, fault: Fault, line: &[u8], text: &mut [u8])
     let cause = b.cause;
     let from = b.from;
     let to = b.to;
-    let end = transcript::put_fault(text, 0, number, fault, cause, &line[from..to]);
+    let end = faults::put_fault(text, 0, number, fault, cause, &line[from..to]);
     io::write_all(STDERR_FILENO, &text[..end]);
 }
 

@@ -13,8 +13,8 @@ use Rattle.charts.specs.declared.Action.{Action}
 use Rattle.charts.specs.declared.Decoded.{Decoded}
 use Rattle.charts.specs.declared.Decoded.the-variants as D
 use Rattle.record.specs.Bytes.{bound}
-use Rattle.transcript.specs.declared.Fault.{Fault}
-use Rattle.transcript.specs.declared.Fault.the-variants as F
+use Rattle.faults.specs.declared.Fault.{Fault}
+use Rattle.faults.specs.declared.Fault.the-variants as F
 use Rattle.notation.specs.declared.Line.{Line}
 use Rattle.notation.specs.declared.Line.the-variants as L
 use Rattle.notation.specs.Grammar.{lineOf}

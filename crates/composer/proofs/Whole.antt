@@ -18,8 +18,8 @@ use Rattle.record.specs.Bytes.{bound}
 use Rattle.record.specs.Layout.{recordsOf}
 use Rattle.runfile.specs.Write.{writeNumber, blockOf}
 use Rattle.runfile.specs.File.{blocksFor, fileFrom, fileOf, Taken}
-use Rattle.transcript.specs.declared.Fault.{Fault}
-use Rattle.transcript.specs.declared.Fault.the-variants as F
+use Rattle.faults.specs.declared.Fault.{Fault}
+use Rattle.faults.specs.declared.Fault.the-variants as F
 use Rattle.notation.specs.declared.Line.{Line}
 use Rattle.notation.specs.declared.Line.the-variants as L
 use Rattle.notation.specs.Words.{limit}

@@ -13,8 +13,8 @@ use Rattle.charts.specs.declared.Decoded.the-variants as D
 use Rattle.record.specs.Bytes.{putAt}
 use Rattle.record.specs.Layout.{bytesOf}
 use Rattle.runfile.specs.Write.{writeNumber, blockWith}
-use Rattle.transcript.specs.declared.Fault.{Fault}
-use Rattle.transcript.specs.declared.Fault.the-variants.{NodesMissing, NodesAgain, NoAction, TooMany, Refused}
+use Rattle.faults.specs.declared.Fault.{Fault}
+use Rattle.faults.specs.declared.Fault.the-variants.{NodesMissing, NodesAgain, NoAction, TooMany, Refused}
 use Rattle.notation.specs.declared.Line.{Line}
 use Rattle.notation.specs.declared.Line.the-variants.{Blank, Nodes, Acts, Wrong}
 use Rattle.composer.specs.declared.Stage.{Stage}

@@ -8,8 +8,8 @@ ghost use Rattle.composer.specs.Composer.{isStopped, stopped, onLine, to
 ghost use Rattle.composer.specs.Composer.{withBlock, flushOf, heldAfter, putOf, putHeld, usedBy, finishOf, finishHeld, startOf};
 use charts::Action;
 use charts::Decoded;
+use faults::Fault;
 use notation::Line;
-use transcript::Fault;
 
 const WRONG_SIZE: u8 = 1;
 

@@ -11,7 +11,7 @@ use Rattle.charts.specs.Records.{isKind}
 use Rattle.charts.specs.declared.Action.{Action}
 use Rattle.record.specs.Layout.{Fits}
 use Rattle.runfile.proofs.Loops.{and-right}
-use Rattle.transcript.specs.declared.Fault.the-variants.{UnknownWord, TooLarge, ExtraField, NoRepeat, LongLine}
+use Rattle.faults.specs.declared.Fault.the-variants.{UnknownWord, TooLarge, ExtraField, NoRepeat, LongLine}
 use Rattle.notation.specs.declared.Line.{Line}
 use Rattle.notation.specs.declared.Line.the-variants.{Blank, Nodes, Acts, Wrong}
 use Rattle.notation.specs.declared.words.Token.{Token}

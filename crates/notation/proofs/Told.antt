@@ -3,10 +3,10 @@ use mathlib.Core.Path.{_≡_, refl}
 use mathlib.Core.List.{List, [], _∷_, _++_}
 use Prim.Native.Nat.{ℕ, _-_}
 use lib.ListN.{take, drop, replicate}
-use Rattle.transcript.specs.declared.Fault.{Fault}
-use Rattle.transcript.specs.declared.Fault.the-variants as F
+use Rattle.faults.specs.declared.Fault.{Fault}
+use Rattle.faults.specs.declared.Fault.the-variants as F
 use Rattle.transcript.specs.Text.{ascii, decimal}
-use Rattle.transcript.specs.Faults.{faultWords, shownByte, shown, hint, fieldOf, fieldWords, causeWords, faultLine}
+use Rattle.faults.specs.Faults.{faultWords, shownByte, shown, hint, fieldOf, fieldWords, causeWords, faultLine}
 use Rattle.notation.specs.declared.Blamed.{Blamed}
 use Rattle.notation.specs.Words.{nameOf, digitOf, digitsOf, tokenOf, tokensOf}
 use Rattle.notation.specs.Grammar.{numberIn, addressIn, addressOrNone, holdIn, lastOf, repeatOf, endingOf, requestOf, nodeOf, respondOf, changeOf, actionOf, nodesOf, namedOf, saidBy, lineOf}

@@ -5,10 +5,10 @@ use Prim.Native.Nat.{ℕ, zero, suc, _+_}
 use lib.Dec.{eqb, ltb, leb}
 use lib.ListN.{length, take, getD}
 use Rattle.charts.specs.Numbers as N
-use Rattle.transcript.specs.declared.Fault.{Fault}
-use Rattle.transcript.specs.declared.Fault.the-variants as F
-use Rattle.transcript.specs.declared.Cause.{Cause}
-use Rattle.transcript.specs.declared.Cause.the-variants as C
+use Rattle.faults.specs.declared.Fault.{Fault}
+use Rattle.faults.specs.declared.Fault.the-variants as F
+use Rattle.faults.specs.declared.Cause.{Cause}
+use Rattle.faults.specs.declared.Cause.the-variants as C
 use Rattle.notation.specs.declared.Line.{Line}
 use Rattle.notation.specs.declared.Line.the-variants.{Blank, Nodes, Acts, Wrong}
 use Rattle.notation.specs.declared.Blamed.{Blamed}

@@ -11,8 +11,8 @@ use Rattle.notation.specs.declared.words.Token.{Token}
 use Rattle.notation.specs.declared.words.Token.the-variants.{Word, Number, Large}
 use Rattle.notation.specs.declared.grammar.Field.{Field}
 use Rattle.notation.specs.declared.grammar.Field.the-variants as F
-use Rattle.transcript.specs.declared.Fault.{Fault}
-use Rattle.transcript.specs.declared.Fault.the-variants.{UnknownWord, NotNumber, TooLarge, MissingField, ExtraField, NoRepeat, LongLine}
+use Rattle.faults.specs.declared.Fault.{Fault}
+use Rattle.faults.specs.declared.Fault.the-variants.{UnknownWord, NotNumber, TooLarge, MissingField, ExtraField, NoRepeat, LongLine}
 use Rattle.notation.specs.declared.Line.{Line}
 use Rattle.notation.specs.declared.Line.the-variants.{Blank, Nodes, Acts, Wrong}
 use Rattle.notation.specs.Words as W

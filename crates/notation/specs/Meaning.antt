@@ -14,8 +14,8 @@ use Rattle.charts.specs.declared.Decoded.{Decoded}
 use Rattle.charts.specs.declared.Decoded.the-variants as D
 use Rattle.record.specs.Layout.{Fits}
 use Rattle.transcript.specs.Lines.{nodesLine}
-use Rattle.transcript.specs.declared.Fault.{Fault}
-use Rattle.transcript.specs.declared.Fault.the-variants.{NodesMissing, NodesAgain, NoAction, Refused}
+use Rattle.faults.specs.declared.Fault.{Fault}
+use Rattle.faults.specs.declared.Fault.the-variants.{NodesMissing, NodesAgain, NoAction, Refused}
 use Rattle.notation.specs.declared.Line.{Line}
 use Rattle.notation.specs.declared.Line.the-variants.{Blank, Nodes, Acts, Wrong}
 use Rattle.notation.specs.Words.{withWord}

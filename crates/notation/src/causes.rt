@@ -9,8 +9,8 @@ use crate::words;
 use crate::words::Cursor;
 use crate::words::Step;
 use crate::words::Token;
-use transcript::Cause;
-use transcript::Fault;
+use faults::Cause;
+use faults::Fault;
 
 const WRONG_SIZE: u8 = 1;
 

@@ -11,7 +11,7 @@ use crate::words::Cursor;
 use crate::words::Step;
 use crate::words::Token;
 use charts::Action;
-use transcript::Fault;
+use faults::Fault;
 
 const BYTE: u32 = 255;
 

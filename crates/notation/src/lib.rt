@@ -11,8 +11,8 @@ ghost use Rattle.notation.specs.Meaning.{markSize};
 ghost use Rattle.notation.specs.Blame.{blameOf};
 use causes::Mark;
 use charts::Action;
-use transcript::Cause;
-use transcript::Fault;
+use faults::Cause;
+use faults::Fault;
 
 // What a line says: nothing, the number of nodes, an action with how often it is repeated, or what is wrong.
 pub enum Line {

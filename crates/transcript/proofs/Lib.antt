@@ -3,4 +3,3 @@ pub mod Decimals
 pub mod Rooms
 pub mod Said
 pub mod PrintLaws
-pub mod Shows

@@ -19,5 +19,8 @@ pub no-room : {b : Bool} (room : ℕ) (buf : List ℕ) (at : ℕ) (text : List �
 no-room {b} room buf at text e h = rw (sym e ∙ not-true b h) (refl, refl)
 
 -- the other way round: what a caller knows whose buffer has room
+pub puts-in : {buf after : List ℕ} {at end : ℕ} {text : List ℕ} (room : ℕ) → at + room ≤ length buf → end ≡ endIn room buf at text → after ≡ putIn room buf at text → Puts buf at text end after
+puts-in {buf} {at = at} room h e f = let fit = le-leb (at + room) (length buf) h in record { ends = rw fit at e; holds = rw fit at f }
+
 pub puts-line : {buf after : List ℕ} {at end : ℕ} {text : List ℕ} → at + longest ≤ length buf → end ≡ endOf buf at text → after ≡ putLine buf at text → Puts buf at text end after
-puts-line {buf} {at = at} h e f = let room = le-leb (at + longest) (length buf) h in record { ends = rw room at e; holds = rw room at f }
+puts-line = puts-in longest

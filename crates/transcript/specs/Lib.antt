@@ -2,4 +2,3 @@ pub mod Text
 pub mod Lines
 pub mod Room
 pub mod Printed
-pub mod Faults

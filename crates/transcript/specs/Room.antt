@@ -16,12 +16,9 @@ pub record Puts (buf : List ℕ) (at : ℕ) (text : List ℕ) (end : ℕ) (after
   pub ends : end ≡ at + length text
   pub holds : after ≡ put buf at text
 
--- the room that each line of a run or an action finds, whatever its own length: 64 bytes hold the longest; and a fault's line with its cause
+-- the room that each line finds, whatever its own length: 64 bytes hold the longest
 abbrev pub longest : ℕ
 longest = 64
-
-abbrev pub longestFault : ℕ
-longestFault = 512
 
 abbrev pub hasRoom : ℕ → List ℕ → ℕ → Bool
 hasRoom room buf at = leb (at + room) (length buf)

@@ -1,62 +1,24 @@
-// The lines of a run as text ("A run printed"), of its actions and of what is wrong in a text, put into a buffer that the caller lends, from a place on.
-// Each function answers the place after its line. Where fewer than 64 bytes are left (512 for a fault) it puts nothing and answers the place it was given.
-mod faults;
+// The lines of a run as text ("A run printed") and of its actions, put into a buffer that the caller lends, from a place on.
+// Each function answers the place after its line. Where fewer than 64 bytes are left it puts nothing and answers the place it was given.
+// Words and figures can be put one by one too, each where it has room.
 mod text;
 mod words;
 
 ghost use mathlib.Core.Path.{_≡_};
 ghost use Prim.Native.Nat.{_+_, _≤_};
 ghost use lib.Dec.{leb};
+ghost use lib.ListN.{length};
 ghost use Rattle.transcript.specs.Lines.{lineOf, nodesLine, doneLine, refusedLine, spanLine};
 ghost use Rattle.transcript.specs.Printed.{actionLine};
-ghost use Rattle.transcript.specs.Faults.{faultLine};
-ghost use Rattle.transcript.specs.Room.{longest, longestFault, endIn, putIn, endOf, putLine};
+ghost use Rattle.transcript.specs.Room.{longest, endIn, putIn, endOf, putLine};
+ghost use Rattle.transcript.specs.Text.{decimal};
 use charts::Action;
 use charts::Report;
 
-// What is wrong in a line of a text or in a text. A refusal has the paper's number.
-pub enum Fault {
-    UnknownWord,
-    NotNumber,
-    TooLarge,
-    MissingField,
-    ExtraField,
-    NoRepeat,
-    LongLine,
-    NodesMissing,
-    NodesAgain,
-    NoAction,
-    TooMany,
-    Refused(u8),
-}
-
-// What more can be said of a fault, with a part of its line beside it.
-pub enum Cause {
-    // Nothing.
-    Plain,
-    // The word is the cause.
-    Quoted,
-    // The word and its field: the action's kind (11 is `nodes`) and the word's place in the line (0 is the first).
-    Field(u8, u8),
-    // The same, with the largest number that the field takes.
-    Large(u8, u8),
-    // The field that is missing.
-    Missing(u8, u8),
-    // No such number of nodes.
-    Size,
-    // No such node among n.
-    Node(u8, u8),
-    // No such address among n.
-    Address(u8, u8),
-    // No such acknowledgement.
-    Ack(u8),
-}
-
 const LONGEST: usize = 64;
 
-const LONGEST_FAULT: usize = 512;
-
-fn has_room(size: usize, at: usize, room: usize) -> bool
+// Whether a buffer of that size has so much room from a place on.
+pub fn has_room(size: usize, at: usize, room: usize) -> bool
     ensures { λ r. ⌜ r ≡ leb (at + room) size ⌝ }
 {
     if size < room {
@@ -154,21 +116,36 @@ pub fn put_span(out: &mut [u8], at: usize, line: u64, times: u32) -> usize
     text::put_last(out, b, times)
 }
 
-// What is wrong on a line of a text, and why. `word` is the part of the line that the cause shows.
-pub fn put_fault(
-    out: &mut [u8],
-    at: usize,
-    number: u64,
-    fault: Fault,
-    cause: Cause,
-    word: &[u8],
-) -> usize
-    ensures { λ r. ⌜ r ≤ at + longestFault ⌝ }
-    ensures { λ r. ⌜ r ≡ endIn longestFault (now (out .entry)) at (faultLine number fault cause (now (word .entry))) ⌝ }
-    ensures { λ _. ⌜ now (out .exit) ≡ putIn longestFault (now (out .entry)) at (faultLine number fault cause (now (word .entry))) ⌝ }
+pub fn put_word(out: &mut [u8], at: usize, word: &[u8]) -> usize
+    ensures { λ r. ⌜ r ≡ endIn (length (now (word .entry))) (now (out .entry)) at (now (word .entry)) ⌝ }
+    ensures { λ _. ⌜ now (out .exit) ≡ putIn (length (now (word .entry))) (now (out .entry)) at (now (word .entry)) ⌝ }
 {
-    if !has_room(out.len(), at, LONGEST_FAULT) {
+    if !has_room(out.len(), at, word.len()) {
         return at;
     }
-    faults::put_fault(out, at, number, fault, cause, word)
+    text::put_word(out, at, word)
+}
+
+// A figure of at most 3 digits.
+pub fn put_u8(out: &mut [u8], at: usize, x: u8) -> usize
+    ensures { λ r. ⌜ r ≤ at + 3 ⌝ }
+    ensures { λ r. ⌜ r ≡ endIn 3 (now (out .entry)) at (decimal x) ⌝ }
+    ensures { λ _. ⌜ now (out .exit) ≡ putIn 3 (now (out .entry)) at (decimal x) ⌝ }
+{
+    if !has_room(out.len(), at, 3) {
+        return at;
+    }
+    text::put_u8(out, at, x)
+}
+
+// A figure of at most 20 digits.
+pub fn put_u64(out: &mut [u8], at: usize, x: u64) -> usize
+    ensures { λ r. ⌜ r ≤ at + 20 ⌝ }
+    ensures { λ r. ⌜ r ≡ endIn 20 (now (out .entry)) at (decimal x) ⌝ }
+    ensures { λ _. ⌜ now (out .exit) ≡ putIn 20 (now (out .entry)) at (decimal x) ⌝ }
+{
+    if !has_room(out.len(), at, 20) {
+        return at;
+    }
+    text::put_u64(out, at, x)
 }
