@@ -32,9 +32,6 @@ examples :
     × (told 2 2 (ascii "respond 0 16 hold") (F.Refused 6) ≡ ascii "line 2: refused 6: respond 0 16 hold: no acknowledgement 16, they are 0 to 15\n")
     × (told 2 2 (ascii "pass" ++ (194 ∷ 160 ∷ ascii "* 2")) F.UnknownWord ≡ ascii "line 2: unknown word: \"pass\\xC2\\xA0*\" (a no-break space: write a plain one)\n")
     × (told 1 0 (255 ∷ 254 ∷ 110 ∷ 0 ∷ []) F.UnknownWord ≡ ascii "line 1: unknown word: \"\\xFF\\xFEn\\x00\" (no plain text: UTF-16, or a binary file)\n")
+    × (told 1 0 (replicate 70 97) F.UnknownWord ≡ ascii "line 1: unknown word: \"" ++ (replicate 64 97 ++ ascii "..\"\n"))
 unfolding faultWords shownByte shown hint fieldOf fieldWords causeWords faultLine decimal nameOf digitOf digitsOf tokenOf tokensOf numberIn addressIn addressOrNone holdIn lastOf repeatOf endingOf requestOf nodeOf respondOf changeOf actionOf nodesOf namedOf saidBy lineOf isWrong endsWith isAt firstIn wordIn statementIn refusalOf blameIn blameOf
-examples = (refl, refl, refl, refl, refl, refl, refl, refl, refl, refl, refl, refl)
-
-long-word : told 1 0 (replicate 70 97) F.UnknownWord ≡ ascii "line 1: unknown word: \"" ++ (replicate 64 97 ++ ascii "..\"\n")
-unfolding faultWords shownByte shown hint fieldOf fieldWords causeWords faultLine decimal nameOf digitOf digitsOf tokenOf tokensOf numberIn addressIn addressOrNone holdIn lastOf repeatOf endingOf requestOf nodeOf respondOf changeOf actionOf nodesOf namedOf saidBy lineOf isWrong endsWith isAt firstIn wordIn statementIn refusalOf blameIn blameOf
-long-word = refl
+examples = (refl, refl, refl, refl, refl, refl, refl, refl, refl, refl, refl, refl, refl)

@@ -2,7 +2,8 @@
 ghost use mathlib.Core.Path.{_≡_};
 ghost use Prim.Native.Nat.{_<_, _≤_};
 ghost use lib.ListN.{length};
-ghost use Rattle.notation.specs.Blame.{isMissing, isWrong, endsWith, isAt, firstIn, afterLast, wordsBefore, wordIn, statementIn, kindOf, refusalOf, span, blamed, blameIn};
+ghost use Rattle.notation.specs.Blame.{isMissing, isWrong, endsWith, isAt, firstIn, afterLast, wordsBefore};
+ghost use Rattle.notation.specs.Blame.{wordIn, statementIn, kindOf, refusalOf, span, blamed, blameIn};
 use crate::Blamed;
 use crate::Line;
 use crate::words;
