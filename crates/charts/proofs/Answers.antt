@@ -3,7 +3,7 @@ use mathlib.Core.Path.{_≡_, refl, sym, ap, subst, _∙_}
 use mathlib.Core.Logic.{_≢_, _⊎_, inl, inr}
 use mathlib.Core.Bool.{Bool, true, false, cond, _&&_, _||_, not}
 use mathlib.Core.List.{List, [], _∷_}
-use Prim.Native.Nat.{ℕ, suc, _<_, _≤_}
+use Prim.Native.Nat.{ℕ, _<_, _≤_}
 use native.Mathlib.Omega.{arith}
 use lib.Dec.{T, eqb, ltb}
 use borrow.Author.Tests.{eqb-true, eqb-false, ltb-true, eq-eqb, ne-eqb, not-true}
@@ -11,7 +11,7 @@ use Rattle.charts.specs.declared.Seen.the-variants as Sn
 use Rattle.charts.specs.declared.Mode.{Mode}
 use Rattle.charts.specs.declared.Mode.the-variants.{Rest, AckBody, AckEnd, Sending, Answering, Acking, Spurious}
 use Rattle.charts.specs.declared.Signal.{Signal}
-use Rattle.charts.specs.declared.Signal.the-variants.{Start, End, Gap, Ack}
+use Rattle.charts.specs.declared.Signal.the-variants.{Start, End, Prefix, Gap, Ack}
 use Rattle.charts.specs.declared.Report.{Report}
 use Rattle.charts.specs.declared.Report.the-variants.{Silent, Won, Sent, Acked, Miss, Good, Dcrc, Broad}
 use Rattle.charts.specs.declared.Packet.{Packet}
@@ -20,8 +20,8 @@ use Rattle.charts.specs.declared.Phase.the-variants.{Idle, Busy, Deliver
 use Rattle.charts.specs.declared.Cell.{Cell}
 use Rattle.charts.specs.declared.Heard.{Heard}
 use Rattle.charts.specs.declared.Way.{Way}
-use Rattle.charts.specs.declared.Clears.{Clears}
-use Rattle.charts.specs.declared.Clears.the-variants as C
+use Rattle.charts.specs.declared.Marking.{Marking}
+use Rattle.charts.specs.declared.Marking.the-variants as M
 use Rattle.charts.specs.declared.Move.{Move}
 use Rattle.charts.specs.declared.Move.the-variants.{Request}
 use Rattle.charts.specs.declared.Buffer.{Buffer}
@@ -29,10 +29,10 @@ use Rattle.charts.specs.declared.Buffer.the-variants.{Empty, Full}
 use Rattle.charts.specs.Modes as P
 use Rattle.charts.specs.Modes.{placeOf, isTold, isOwed}
 use Rattle.charts.specs.Signals as S
-use Rattle.charts.specs.Signals.{everybody, classOf, kindOf, closes, ackOf, isEnd}
+use Rattle.charts.specs.Signals.{everybody, classOf, kindOf, ackOf, isEnd}
 use Rattle.charts.specs.Reception.{answer, hears}
-use Rattle.charts.specs.State.{State, setMode, upd, every, some, others, pendings, holders, moved, cleared, fresh}
-use Rattle.charts.specs.Actions.{does, firstOther, nextOther, onward, hearing, granted, putsOut, clearedBy, answers}
+use Rattle.charts.specs.State.{State, setMode, upd, every, some, others, pendings, holders, moved, remarked, fresh}
+use Rattle.charts.specs.Actions.{does, firstOther, nextOther, onward, hearing, granted, putsOut, markingBy, answers, takesGap}
 use Rattle.charts.specs.Step.{accepted}
 use Rattle.charts.specs.Demand as Demand
 use Rattle.charts.specs.Demand.{Note, told, gave, Run, none, run, Book, newBook, asks, confirms, note, notes, nodeOf, moves, reports, enters, Acknowledged, Honest, AllHonest}
@@ -43,7 +43,7 @@ use Rattle.charts.proofs.Places.{mode-is, law, law-mode, ackIn, active,
 use Rattle.charts.proofs.Payload.{OthersIn, sends, Carry, Tells, told-none, told-good, told-dcrc, told-broad, signal-is, answers-to, past, inRow, in-row, row-in, turn-in, holding-past, carries}
 use Rattle.charts.proofs.Stages.{rowAt, turnAt, quiet, grantSteps, clearSteps, Delivery, BusyAt, talks, clears, Stage}
 use Rattle.charts.proofs.Reach.{Reach, answerers, allBelow, mem-below, low-places, step-place, is-talker, no-turn}
-use Rattle.charts.proofs.Ways.{passed-by, Puts, start, dhead, dest, header, datum, end-all, end-one, filler, ack-start, ack-body, ack-hold, ack-end, holds-on, Arrives, passes, redirects, bad-header, bad-data, bad-ack, Effect, waits, replies, wins, loses, gives, puts, frees, arrives, drops, grants, grants-none, gaps, resets}
+use Rattle.charts.proofs.Ways.{passed-by, Puts, start, dhead, dest, header, datum, end-all, end-one, filler, ack-start, ack-body, ack-hold, ack-end, holds-on, Arrives, passes, redirects, bad-header, bad-data, bad-ack, Effect, waits, replies, wins, loses, gives, puts, frees, arrives, drops, grants, grants-none, gaps, settles, resets}
 use Rattle.charts.proofs.Books.{Kept, Runs, ours, By, silent, acks, misses, good, dcrc, broad, by, conf, leaves, remains, holdOf}
 
 -- WHAT A NODE SAYS OF A REQUEST, by its mode: nothing; that it was told; the acknowledgement that its user gave
@@ -119,13 +119,14 @@ pub fresh-heed : (n : ℕ) → Heed (fresh n) (λ k. newBook)
 fresh-heed n = record { agrees = λ k j kl jl e. tt; still = λ k kl e u. tt; acked = λ k kl e. tt; carried = tt; honest = λ k kl. tt }
 
 -- clearing marks changes no mode
-cleared-heed : (x : Clears) (s : State) (bk : ℕ → Book) → Heed s bk → Heed (cleared x s) bk
-cleared-heed C.Nothing s bk v = v
-cleared-heed C.Misled s bk v = record { agrees = v .agrees; still = v .still; acked = v .acked; carried = v .carried; honest = v .honest }
-cleared-heed C.Won s bk v = record { agrees = v .agrees; still = v .still; acked = v .acked; carried = v .carried; honest = v .honest }
+remarked-heed : (x : Marking) (s : State) (bk : ℕ → Book) → Heed s bk → Heed (remarked x s) bk
+remarked-heed M.Nothing s bk v = v
+remarked-heed M.Misled s bk v = record { agrees = v .agrees; still = v .still; acked = v .acked; carried = v .carried; honest = v .honest }
+remarked-heed M.Won s bk v = record { agrees = v .agrees; still = v .still; acked = v .acked; carried = v .carried; honest = v .honest }
+remarked-heed (M.Concatenated b) s bk v = record { agrees = v .agrees; still = v .still; acked = v .acked; carried = v .carried; honest = v .honest }
 
 -- VOICES BY PLACES
-by-place : (a b : ℕ → Bool) → T (every (λ p. implies (a p) (b p)) 23) → (m : Mode) → a (placeOf m) ≡ true → b (placeOf m) ≡ true
+by-place : (a b : ℕ → Bool) → T (every (λ p. implies (a p) (b p)) 24) → (m : Mode) → a (placeOf m) ≡ true → b (placeOf m) ≡ true
 by-place a b t m = implied _ _ (law-mode (λ p. implies (a p) (b p)) t m)
 
 says-heard : (m : Mode) → mem (placeOf m) tellers ≡ true → voice m ≡ heard
@@ -319,7 +320,9 @@ reports-ack j m g a e = (q, go (classOf j g) (subst (λ (x : Mode). Acked j a �
     missed z = absurd (let y : _≡_ {A = ℕ} W.acked W.miss = ap wordOf z in omega arith)
 
     go : (c : ℕ) → Acked j a ≡ answer j (AckEnd (Sn.Ack (ackIn m))) c g .report → ackIn m ≡ a
-    go c = pick (λ (x : Heard). Acked j a ≡ x .report → ackIn m ≡ a) (closes c) _ _ (λ z. cc) (pick (λ (x : Heard). Acked j a ≡ x .report → ackIn m ≡ a) (eqb c S.gap) _ _ missed missed)
+    go c =
+        pick (λ (x : Heard). Acked j a ≡ x .report → ackIn m ≡ a) (eqb c S.end) _ _ (λ z. cc)
+        (pick (λ (x : Heard). Acked j a ≡ x .report → ackIn m ≡ a) (eqb c S.prefix) _ _ (λ z. cc) (pick (λ (x : Heard). Acked j a ≡ x .report → ackIn m ≡ a) (eqb c S.gap) _ _ missed missed))
 
 -- nobody but the node that p is for says anything
 others-mute : (p : Packet) (s : State) → Carry p s → (i : ℕ) → p .to ≡ i → OthersMute s i
@@ -438,15 +441,15 @@ abbrev sent : List ℕ
 sent = P.rest ∷ P.awaitAck ∷ P.headOwn ∷ P.headAll ∷ P.bodyOwn ∷ P.bodyAll ∷ P.tailOwnGood ∷ P.tailOwnBad ∷ P.tailAllGood ∷ P.tailAllBad ∷ P.wait ∷ P.owed ∷ P.told ∷ []
 
 -- who reports what it read hears the End of a packet, and only its sender has a request running, in AwaitAck
-only-awaits : (n : ℕ) (f : ℕ → Cell) (w : ℕ) (g : Signal) (j : ℕ) → Delivery n f w g j → mem (placeOf (f j .mode)) tails ≡ true → OnlyAwaits n f
-only-awaits n f w g j a e k kl o =
+only-awaits : (b : Bool) (n : ℕ) (f : ℕ → Cell) (w : ℕ) (g : Signal) (j : ℕ) → Delivery b n f w g j → mem (placeOf (f j .mode)) tails ≡ true → OnlyAwaits n f
+only-awaits b n f w g j a e k kl o =
     let y = and-true (everyIn (rowAt (a .d) .sender) sent && allBelow (rowAt (a .d) .sender) 30) _
-    (implied _ _ (table-at (λ d. implies (shares (rowAt d .before) tails) ((everyIn (rowAt d .sender) sent && allBelow (rowAt d .sender) 30) && inRow sent (rowAt d))) 18 tt (a .d) (a .d-lt))
+    (implied _ _ (table-at (λ d. implies (shares (rowAt d .before) tails) ((everyIn (rowAt d .sender) sent && allBelow (rowAt d .sender) 30) && inRow sent (rowAt d))) 22 tt (a .d) (a .d-lt))
     (share (placeOf (f j .mode)) (rowAt (a .d) .before) tails (a .before j (a .next-lt) (a .apart) (omega arith)) e)) in
     let z = and-true (everyIn (rowAt (a .d) .sender) sent) _ (y .0) in
     let x : mem (placeOf (f k .mode)) sent ≡ true = by-test (eqb k w)
     (λ q. low-places (rowAt (a .d) .sender) sent (z .0) (z .1) (f k .mode) (ap (λ k. mem (stepOf (f k .mode)) (rowAt (a .d) .sender)) (eqb-true k w q) ∙ a .sender))
-    (λ q. in-row n f w g j a sent (y .1) k kl (eqb-false k w q)) in
+    (λ q. in-row b n f w g j a sent (y .1) k kl (eqb-false k w q)) in
     eqb-true _ _ (implied _ _ (by-place (λ p. mem p sent) (λ p. implies (ours p) (eqb p P.awaitAck)) tt (f k .mode) x) o)
 
 -- what arrives as an Ack is one, with the same acknowledgement
@@ -474,33 +477,33 @@ wins-confirmed false i x f e = refl
 
 module _ (s : State) (bk : ℕ → Book) (v : Heed s bk) (p : Packet) (ca : Carry p s) (kp : (k : ℕ) → Kept (s .cell k) (bk k)) (re : Reach s) (i : ℕ) (l : i < s .n) where
   -- while node i is in Answering nobody else has heard a good Ack
-  none-acked : s .cell i .mode ≡ Answering → (ph : Phase) → Stage ph (s .n) (s .cell) → (k : ℕ) → k < s .n → k ≢ i → placeAt s k ≢ P.ackGood
-  none-acked e Idle a k kl o q = let z : P.answering ≡ P.rest = sym (ap placeOf e) ∙ a i l in omega arith
+  none-acked : s .cell i .mode ≡ Answering → (ph : Phase) → Stage (s .concatenated) ph (s .n) (s .cell) → (k : ℕ) → k < s .n → k ≢ i → placeAt s k ≢ P.ackGood
+  none-acked e Idle a k kl o q = let z : P.answering ≡ P.rest = sym (ap placeOf e) ∙ a .resting i l in omega arith
   none-acked e Busy (talks a) k kl o q =
-      let w : i ≡ a .w = is-talker (s .n) (s .cell) a i l (ap (λ m. active (placeOf m)) e) in
-      no-turn (s .n) (s .cell) a P.answering tt (ap (λ k. stepOf (s .cell k .mode)) (sym w) ∙ ap stepOf e)
-  none-acked e Busy (clears a y) k kl o q = unlisted clearSteps refl (s .cell k .mode) (a k kl) q
+      let w : i ≡ a .w = is-talker (s .concatenated) (s .n) (s .cell) a i l (ap (λ m. active (placeOf m)) e) in
+      no-turn (s .concatenated) (s .n) (s .cell) a P.answering tt (ap (λ k. stepOf (s .cell k .mode)) (sym w) ∙ ap stepOf e)
+  none-acked e Busy (clears a) k kl o q = unlisted clearSteps refl (s .cell k .mode) (a .steps k kl) q
   none-acked e (Delivering w g j) a k kl o q =
-      clash _ (row-in (s .n) (s .cell) i l (ap (λ m. active (placeOf m)) e) P.answering (ap stepOf e) quiet w g j a tt k kl o) (ap (λ c. mem c quiet) q)
+      clash _ (row-in (s .concatenated) (s .n) (s .cell) i l (ap (λ m. active (placeOf m)) e) P.answering (ap stepOf e) quiet w g j a tt k kl o) (ap (λ c. mem c quiet) q)
   none-acked e Granting a k kl o q = unlisted grantSteps refl (s .cell k .mode) (a .steps k kl) q
   none-acked e (Gapping j) a k kl o q = clash _ (a .calm i l) (ap (λ m. mem (placeOf m) quiet) e)
 
   -- where node i puts out the last signal of its acknowledgement, nobody sends or awaits
-  none-sends : BusyAt (s .n) (s .cell) → (c a : ℕ) (b : Bool) → s .cell i .mode ≡ Acking c a b → 2 ≤ c → (k : ℕ) → k < s .n → sends (placeAt s k) ≡ true → ⊥
-  none-sends (clears t y) c a b e h k kl z =
-      let u : ackingAt c < 31 = subst (λ x. x < 31) (ap stepOf e) (mem-below (stepOf (s .cell i .mode)) clearSteps 31 refl (t i l)) in omega arith
+  none-sends : BusyAt (s .concatenated) (s .n) (s .cell) → (c a : ℕ) (b : Bool) → s .cell i .mode ≡ Acking c a b → 2 ≤ c → (k : ℕ) → k < s .n → sends (placeAt s k) ≡ true → ⊥
+  none-sends (clears t) c a b e h k kl z =
+      let u : ackingAt c < 31 = subst (λ x. x < 31) (ap stepOf e) (mem-below (stepOf (s .cell i .mode)) clearSteps 31 refl (t .steps i l)) in omega arith
   none-sends (talks t) c a b e h k kl z =
       by-test (eqb k i) (λ q. clash _ z (ap (λ k. sends (placeAt s k)) (eqb-true k i q) ∙ ap (λ m. sends (placeOf m)) e))
       (λ q. clash _ z (not-true _ (by-place (λ p. mem p past) (λ p. not (sends p)) tt (s .cell k .mode)
-      (turn-in (s .n) (s .cell) i l (ap (λ m. active (placeOf m)) e) (ackingAt 2) (ap stepOf e ∙ ap ackingAt two) past t tt k kl (eqb-false k i q)))))
+      (turn-in (s .concatenated) (s .n) (s .cell) i l (ap (λ m. active (placeOf m)) e) (ackingAt 2) (ap stepOf e ∙ ap ackingAt two) past t tt k kl (eqb-false k i q)))))
     where
       at : turnAt (t .t) .step ≡ ackingAt c
-      at = sym (t .talker) ∙ ap (λ k. stepOf (s .cell k .mode)) (sym (is-talker (s .n) (s .cell) t i l (ap (λ m. active (placeOf m)) e))) ∙ ap stepOf e
+      at = sym (t .talker) ∙ ap (λ k. stepOf (s .cell k .mode)) (sym (is-talker (s .concatenated) (s .n) (s .cell) t i l (ap (λ m. active (placeOf m)) e))) ∙ ap stepOf e
 
       two : c ≡ 2
       two =
-          let u : ackingAt c < 42 = subst (λ x. x < 42) at (ltb-true _ _ (table-at (λ t. ltb (turnAt t .step) 42) 15 tt (t .t) (t .t-lt))) in
-          let w : c < 3 = ltb-true _ _ (implied _ _ (pairs-at (λ t c. implies (eqb (turnAt t .step) (ackingAt c)) (ltb c 3)) 15 6 tt (t .t) c (t .t-lt) (omega arith)) (eq-eqb _ _ at)) in omega arith
+          let u : ackingAt c < 42 = subst (λ x. x < 42) at (ltb-true _ _ (table-at (λ t. ltb (turnAt t .step) 42) 17 tt (t .t) (t .t-lt))) in
+          let w : c < 3 = ltb-true _ _ (implied _ _ (pairs-at (λ t c. implies (eqb (turnAt t .step) (ackingAt c)) (ltb c 3)) 17 6 tt (t .t) c (t .t-lt) (omega arith)) (eq-eqb _ _ at)) in omega arith
 
   -- node i puts out a signal
   abbrev Out : Signal → Mode → State
@@ -524,15 +527,15 @@ module _ (s : State) (bk : ℕ → Book) (v : Heed s bk) (p : Packet) (ca : Carr
       (isAck g ≡ true → voice m ≡ given (ackOf g)) → Heed (Out g m) bk
   on {m = m} {g = g} x e q f a = calm s bk v _ i _ bk (λ k kl o h. refl) (q ∙ sym (ap voice e)) (own-follows m e f) (out-acks g m a) (v .honest)
 
-  last : {c a : ℕ} {b : Bool} {m : Mode} {g : Signal} → Puts i (s .cell i .sending) (Acking c a b) g m Silent → BusyAt (s .n) (s .cell) → s .cell i .mode ≡ Acking c a b → 2 ≤ c →
+  last : {c a : ℕ} {b : Bool} {m : Mode} {g : Signal} → Puts i (s .cell i .sending) (Acking c a b) g m Silent → BusyAt (s .concatenated) (s .n) (s .cell) → s .cell i .mode ≡ Acking c a b → 2 ≤ c →
       voice m ≡ mute → follows (placeOf m) P.acking ≡ true → isAck g ≡ false → Heed (Out g m) bk
   last {c} {a} {b} {m} {g} x t e h q f n =
       turns s bk v _ i _ bk (λ k kl o h. refl) (λ p l z. subst (λ x. Agrees i x p l) (sym q) tt) (λ k kl z u. absurd (none-sends t c a b e h k kl z))
       (own-follows m e f) (out-acks g m (λ z. clash _ z n)) (v .honest)
 
-  puts-heed : {m₀ m : Mode} {g : Signal} {r : Report} → BusyAt (s .n) (s .cell) → s .cell i .mode ≡ m₀ → Puts i (s .cell i .sending) m₀ g m r →
-      Heed (cleared (clearedBy g) (Out g m)) (λ k. reports (eqb k (nodeOf r)) r (bk k))
-  puts-heed t e start = cleared-heed (clearedBy Start) _ bk (on start e refl refl (λ z. never z))
+  puts-heed : {m₀ m : Mode} {g : Signal} {r : Report} → BusyAt (s .concatenated) (s .n) (s .cell) → s .cell i .mode ≡ m₀ → Puts i (s .cell i .sending) m₀ g m r →
+      Heed (remarked (markingBy m₀ g) (Out g m)) (λ k. reports (eqb k (nodeOf r)) r (bk k))
+  puts-heed t e start = remarked-heed (markingBy (Sending 0) Start) _ bk (on start e refl refl (λ z. never z))
   puts-heed t e dhead = on dhead e refl refl (λ z. never z)
   puts-heed t e dest = on dest e refl refl (λ z. never z)
   puts-heed t e header = on header e refl refl (λ z. never z)
@@ -541,9 +544,9 @@ module _ (s : State) (bk : ℕ → Book) (v : Heed s bk) (p : Packet) (ca : Carr
       confirmed s bk v _ i _ (Sent i) (λ b x. reports b (Sent i) x) (λ b. refl) (λ b. refl) (sym (ap voice e)) refl (run-all _ (bk i .running) (λ p l. tt)) (out-acks End Rest (λ z. never z))
   puts-heed t e (end-one h q) = on (end-one h q) e refl refl (λ z. never z)
   puts-heed t e filler = on filler e refl refl (λ z. never z)
-  puts-heed t e ack-start = cleared-heed (clearedBy Start) _ bk (on ack-start e refl refl (λ z. never z))
+  puts-heed t e (ack-start {a = a} {h = h}) = remarked-heed (markingBy (Acking 0 a h) Start) _ bk (on ack-start e refl refl (λ z. never z))
   puts-heed t e ack-body = on ack-body e refl refl (λ z. refl)
-  puts-heed t e (ack-hold h) = last (ack-hold h) t e h refl refl refl
+  puts-heed t e (ack-hold {k = k} {a = a} h) = remarked-heed (markingBy (Acking k a true) Prefix) _ bk (last (ack-hold h) t e h refl refl refl)
   puts-heed t e (ack-end h) = last (ack-end h) t e h refl refl refl
   puts-heed t e holds-on = on holds-on e refl refl (λ z. never z)
 
@@ -579,8 +582,8 @@ module _ (s : State) (bk : ℕ → Book) (v : Heed s bk) (p : Packet) (ca : Carr
       pick-by (λ x. voice x ≡ voice m) (isOwed m) _ _ (λ e. sym (ap voice (mode-is m P.owed (eqb-true _ _ e)))) (λ e. refl)
 
   -- a signal under way: an Ack stays its sender's; where node i hears it good, it is what was given, since the notes agree with what the sender says
-  at-stage : {ph : Phase} → s .phase ≡ ph → Stage ph (s .n) (s .cell)
-  at-stage z = subst (λ ph. Stage ph (s .n) (s .cell)) z (re .stage)
+  at-stage : {ph : Phase} → s .phase ≡ ph → Stage (s .concatenated) ph (s .n) (s .cell)
+  at-stage z = subst (λ ph. Stage (s .concatenated) ph (s .n) (s .cell)) z (re .stage)
 
   acks-at : {ph : Phase} → s .phase ≡ ph → AckAt ph (λ k. s .cell k .mode)
   acks-at z = subst (λ ph. AckAt ph (λ k. s .cell k .mode)) z (v .carried)
@@ -595,8 +598,15 @@ module _ (s : State) (bk : ℕ → Book) (v : Heed s bk) (p : Packet) (ca : Carr
       run-map (Agrees w (voiceAt s w)) (λ p l. Acknowledged p (ackOf t) l) (bk i .running) (λ q n u. subst (λ x. Agrees w x q n) (acks-at z (y .0) ∙ ap given (y .1)) u .1)
       (v .agrees i w l (at-stage z .here) (ap asking e))
 
+  -- node i gets its Gap
+  gapped : {ph : Phase} → s .phase ≡ Gapping i → AckAt ph (modesAfter s i (takesGap i (s .cell i))) → Tells p (hears i (s .cell i .mode) Gap .report) →
+      Heed (moved s ph i (takesGap i (s .cell i))) (λ k. reports (eqb k (nodeOf (hears i (s .cell i .mode) Gap .report))) (hears i (s .cell i .mode) Gap .report) (bk k))
+  gapped z a =
+      hears-heed s bk v p ca kp _ i l Gap (s .cell i) a
+      (λ e. clash _ e (not-true _ (by-place (λ p. mem p quiet) (λ p. not (mem p tails)) tt (s .cell i .mode) (at-stage z .calm i l)))) (λ e f. never f)
+
   -- every way leads to a state and books of which it holds again
-  pub heeds : {m : Move} {r : Report} {ph : Phase} {c : Cell} {x : Clears} → Effect s m i (does r ph c x) → Heed (cleared x (moved s ph i c)) (λ k. enters k (accepted m r) (bk k))
+  pub heeds : {m : Move} {r : Report} {ph : Phase} {c : Cell} {x : Marking} → Effect s m i (does r ph c x) → Heed (remarked x (moved s ph i c)) (λ k. enters k (accepted m r) (bk k))
   heeds (waits {p = q} e f) =
       calm s bk v _ i _ _ (λ k kl o h. ap (λ b. moves b (Request i q) (bk k) .running) (ne-eqb k i o)) refl
       (rw (waits-running (eqb i i) i q (bk i) (kp i .holds ∙ ap holdOf (mode-is (s .cell i .mode) P.rest e))) (own-same s bk v i l)) (acks-stay _ refl)
@@ -607,19 +617,19 @@ module _ (s : State) (bk : ℕ → Book) (v : Heed s bk) (p : Packet) (ca : Carr
       (λ k. asks-confirmed (eqb k i) _ i q (bk k) refl)
   heeds (wins {p = q} z e f w) =
       begins _ _ _ q refl (ap voice (mode-is (s .cell i .mode) P.rest e)) (ap (λ b. reports b (Won i) (bk i) .running) (eq-eqb i i refl) ∙ ap (λ f. Demand.wins f (bk i) .running) (kp i .waits ∙ f))
-      (λ k o. ap (λ b. reports b (Won i) (bk k) .running) (ne-eqb k i o)) (λ k kl o. ap (λ c. mem c past) (at-stage z k kl)) tt (λ k. wins-confirmed (eqb k i) i (bk k) _ refl)
+      (λ k o. ap (λ b. reports b (Won i) (bk k) .running) (ne-eqb k i o)) (λ k kl o. ap (λ c. mem c past) (at-stage z .resting k kl)) tt (λ k. wins-confirmed (eqb k i) i (bk k) _ refl)
   heeds loses = stays (s .phase) (acks-stay (s .cell i) refl)
-  heeds (gives {a = a} {h = h} e) =
+  heeds (gives {a = a} {h = h} e u) =
       noted s bk v (s .phase) i (answers a h (s .cell i)) _ (gave i a) l (λ k. refl) (λ z. let y : _≡_ {A = ℕ} 0 1 = cc in omega arith)
       (others-mute p s ca i (answers-to (ap (λ m. mem (placeOf m) answerers) e) (ca .all i l))) (none-acked e (s .phase) (re .stage))
-      (λ k kl o u. given-run a (bk k .running) (subst (λ x. Running (Agrees i x) (bk k .running)) (ap voice e) (v .agrees k i kl l u)))
+      (λ k kl o q. given-run a (bk k .running) (subst (λ x. Running (Agrees i x) (bk k .running)) (ap voice e) (v .agrees k i kl l q)))
       (same-acks s bk v (s .phase) i _ (λ b z. let q : heard ≡ given b = sym (ap voice e) ∙ z in let y : _≡_ {A = ℕ} 0 1 = cc in absurd (omega arith)) (v .carried)) (v .honest)
   heeds (puts z h o x) = puts-heed (at-stage z) refl x
   heeds (frees z h e) =
       calm s bk v _ i _ bk (λ k kl o h. refl) (sym (ap voice e)) (own-none s bk v i Rest _ refl)
       (pick (λ p. (f : ℕ → Mode) → AckAt p f) (others (holders (s .cell)) i (s .n)) _ _ (λ f. tt) (λ f. tt) _) (v .honest)
   heeds (arrives {w = w} {g = g} {t = t} {b = b} z x) =
-      hears-heed s bk v p ca kp _ i l t (hearing (s .cell i) (hears i (s .cell i .mode) t) b) (acks-on z _ _) (only-awaits (s .n) (s .cell) w g i (at-stage z)) (ack-ends z x)
+      hears-heed s bk v p ca kp _ i l t (hearing (s .cell i) (hears i (s .cell i .mode) t) b) (acks-on z _ _) (only-awaits (s .concatenated) (s .n) (s .cell) w g i (at-stage z)) (ack-ends z x)
       (carries p s ca re i l (arrives z x) .tells)
   heeds (drops z e) = stays _ (acks-on z _ (s .cell i))
   heeds (grants z e f) =
@@ -628,7 +638,6 @@ module _ (s : State) (bk : ℕ → Book) (v : Heed s bk) (p : Packet) (ca : Carr
       (pick (λ x. Own s bk v i x (bk i .running)) (isOwed (s .cell i .mode)) _ _ (own-none s bk v i Spurious _ refl) (own-same s bk v i l)))
       (pick (λ p. (f : ℕ → Mode) → AckAt p f) (others (pendings (s .cell)) i (s .n)) _ _ (λ f. tt) (λ f. tt) _) (v .honest)
   heeds (grants-none z e) = stays Busy tt
-  heeds (gaps z) =
-      hears-heed s bk v p ca kp _ i l Gap (s .cell i) (pick (λ p. (f : ℕ → Mode) → AckAt p f) (ltb (suc i) (s .n)) _ _ (λ f. tt) (λ f. tt) _)
-      (λ e. clash _ e (not-true _ (by-place (λ p. mem p quiet) (λ p. not (mem p tails)) tt (s .cell i .mode) (at-stage z .calm i l)))) (λ e f. never f) (carries p s ca re i l (gaps z) .tells)
-  heeds (resets z) = cleared-heed C.Won _ bk (stays (s .phase) (acks-stay (s .cell i) refl))
+  heeds (gaps z u) = gapped z tt (carries p s ca re i l (gaps z u) .tells)
+  heeds (settles z u) = remarked-heed (M.Concatenated false) _ _ (gapped z tt (carries p s ca re i l (settles z u) .tells))
+  heeds (resets z) = remarked-heed M.Won _ bk (stays (s .phase) (acks-stay (s .cell i) refl))

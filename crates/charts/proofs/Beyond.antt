@@ -14,8 +14,8 @@ use Rattle.charts.specs.declared.Output.the-variants as O
 use Rattle.charts.specs.declared.Way.{Way}
 use Rattle.charts.specs.declared.Arrival.{Arrival}
 use Rattle.charts.specs.declared.Arrival.the-variants as A
-use Rattle.charts.specs.declared.Clears.{Clears}
-use Rattle.charts.specs.declared.Clears.the-variants as C
+use Rattle.charts.specs.declared.Marking.{Marking}
+use Rattle.charts.specs.declared.Marking.the-variants as M
 use Rattle.charts.specs.declared.Move.{Move}
 use Rattle.charts.specs.declared.Move.the-variants.{Request, Arbitrate, Respond, Clock, Carry, Grant, GapNext, Reset}
 use Rattle.charts.specs.declared.Action.{Action}
@@ -25,7 +25,7 @@ use Rattle.charts.specs.Reception.{hears}
 use Rattle.charts.specs.Numbers as N
 use Rattle.charts.specs.Outputs.{output}
 use Rattle.charts.specs.Arrivals.{arrives}
-use Rattle.charts.specs.State.{State, isBusy, setMisled, setWon, wons, pendings, holders, upd, some, others, every, lowest, moved, cleared}
+use Rattle.charts.specs.State.{State, isBusy, setMisled, setWon, wons, pendings, holders, upd, some, others, every, lowest, moved, remarked}
 use Rattle.charts.specs.Actions.{Outcome, closed, does, when, request, arbitrate, respond, clockWith, clock, deliverWith, carry, grant, gap, reset, nextOf, outcome}
 use Rattle.charts.specs.Records.{moveOf, read}
 use Rattle.charts.specs.Valid.{cellFits, valid}
@@ -34,22 +34,24 @@ use Rattle.charts.proofs.Tools.{and-yes, pick-by, upd-other, some-agree
 use Rattle.charts.proofs.Steps.{Known, Decodes, taken, decodes, Valid, is-valid, next-lt, Stepped, refused, acts, stepped}
 
 -- not changed: an action is about a node below n, and marks are cleared below n only
-cleared-beyond : (x : Clears) (s : State) (k : ℕ) → s .n ≤ k → cleared x s .cell k ≡ s .cell k
-cleared-beyond C.Nothing s k h = refl
-cleared-beyond C.Misled s k h = rw (le-ltb k (s .n) h, and-yes (s .cell k .misled)) refl
-cleared-beyond C.Won s k h = rw (le-ltb k (s .n) h, and-yes (s .cell k .won)) refl
+remarked-beyond : (x : Marking) (s : State) (k : ℕ) → s .n ≤ k → remarked x s .cell k ≡ s .cell k
+remarked-beyond M.Nothing s k h = refl
+remarked-beyond M.Misled s k h = rw (le-ltb k (s .n) h, and-yes (s .cell k .misled)) refl
+remarked-beyond M.Won s k h = rw (le-ltb k (s .n) h, and-yes (s .cell k .won)) refl
+remarked-beyond (M.Concatenated b) s k h = refl
 
 pub untouched : (s : State) (a : Action) (k : ℕ) → s .n ≤ k → step s a .state .cell k ≡ s .cell k
 untouched s a k h = go (stepped s a)
   where
     go : {r : Result} {w : Event} → Stepped s a r w → r .state .cell k ≡ s .cell k
     go (refused q) = refl
-    go (acts {i} {r} {p} {c} {x} v q l w) = let d : k ≢ i = (λ z. omega arith) in cleared-beyond x (moved s p i c) k h ∙ upd-other (s .cell) i c k d
+    go (acts {i} {r} {p} {c} {x} v q l w) = let d : k ≢ i = (λ z. omega arith) in remarked-beyond x (moved s p i c) k h ∙ upd-other (s .cell) i c k d
 
--- not read: two states that agree in n, in the phase and in the cells below n ..
+-- not read: two states that agree in n, in the phase, in the mark of the bus and in the cells below n ..
 pub record Agree (s t : State) : Type 0 where
   pub same-n : s .n ≡ t .n
   pub same-phase : s .phase ≡ t .phase
+  pub same-mark : s .concatenated ≡ t .concatenated
   pub same-cells : (k : ℕ) → k < s .n → s .cell k ≡ t .cell k
 
 -- .. are answered alike, and the states after agree again
@@ -103,7 +105,7 @@ reset-agree n ph c u v e = rw e refl
 
 -- a state with other cells, which agree below n
 abbrev withCells : State → (ℕ → Cell) → State
-withCells s g = record { n = s .n; phase = s .phase; cell = g }
+withCells s g = record { n = s .n; phase = s .phase; concatenated = s .concatenated; cell = g }
 
 module _ (s : State) (g : ℕ → Cell) (h : (k : ℕ) → k < s .n → s .cell k ≡ g k) where
   marks : {A : Type 0} (f : Cell → A) (k : ℕ) → k < s .n → f (s .cell k) ≡ f (g k)
@@ -130,7 +132,7 @@ module _ (s : State) (g : ℕ → Cell) (h : (k : ℕ) → k < s .n → s .cell 
   unfolding outcome
   same-outcome v (Request i p) k = ap (λ c. request (s .phase) c p) (h i (k .0))
   same-outcome v (Arbitrate i) k = ap (arbitrate (s .phase) i) (h i k)
-  same-outcome v (Respond i a b) k = ap (λ c. respond (s .phase) c a b) (h i (k .0))
+  same-outcome v (Respond i a b) k = ap (λ c. respond (s .phase) (s .concatenated) c a b) (h i (k .0))
   same-outcome v (Clock i) k =
       ap (λ c. clock (s .n) (s .phase) i c (holders (s .cell))) (h i k)
       ∙ clock-agree (s .n) (s .phase) i (g i) _ _ (others-agree (holders (s .cell)) (holders g) i (s .n) (marks (λ c. c .holder)) false)
@@ -149,21 +151,22 @@ module _ (s : State) (g : ℕ → Cell) (h : (k : ℕ) → k < s .n → s .cell 
 
 -- states that agree, with one cell changed alike and marks cleared
 moved-agree : (s t : State) (p : Phase) (i : ℕ) (c : Cell) → Agree s t → Agree (moved s p i c) (moved t p i c)
-moved-agree s t p i c e = record { same-n = e .same-n; same-phase = refl; same-cells = λ k l. ap (cond (eqb k i) c) (e .same-cells k l) }
+moved-agree s t p i c e = record { same-n = e .same-n; same-phase = refl; same-mark = e .same-mark; same-cells = λ k l. ap (cond (eqb k i) c) (e .same-cells k l) }
 
-cleared-agree : (x : Clears) (s t : State) → Agree s t → Agree (cleared x s) (cleared x t)
-cleared-agree C.Nothing s t e = e
-cleared-agree C.Misled s t e =
-    record { same-n = e .same-n; same-phase = e .same-phase; same-cells = λ k l. ap₂ (λ n c. setMisled (c .misled && not (ltb k n)) c) (e .same-n) (e .same-cells k l) }
-cleared-agree C.Won s t e =
-    record { same-n = e .same-n; same-phase = e .same-phase; same-cells = λ k l. ap₂ (λ n c. setWon (c .won && not (ltb k n)) c) (e .same-n) (e .same-cells k l) }
+remarked-agree : (x : Marking) (s t : State) → Agree s t → Agree (remarked x s) (remarked x t)
+remarked-agree M.Nothing s t e = e
+remarked-agree M.Misled s t e =
+    record { same-n = e .same-n; same-phase = e .same-phase; same-mark = e .same-mark; same-cells = λ k l. ap₂ (λ n c. setMisled (c .misled && not (ltb k n)) c) (e .same-n) (e .same-cells k l) }
+remarked-agree M.Won s t e =
+    record { same-n = e .same-n; same-phase = e .same-phase; same-mark = e .same-mark; same-cells = λ k l. ap₂ (λ n c. setWon (c .won && not (ltb k n)) c) (e .same-n) (e .same-cells k l) }
+remarked-agree (M.Concatenated b) s t e = record { same-n = e .same-n; same-phase = e .same-phase; same-mark = refl; same-cells = e .same-cells }
 
 refuse-alike : (s t : State) (k : ℕ) → Agree s t → Alike (refuses s k) (refuses t k)
 refuse-alike s t k e = record { same-number = refl; same-report = refl; agree-again = e }
 
 carry-out-alike : (s t : State) (i : ℕ) (o : Outcome) → Agree s t → Alike (carryOut s i o) (carryOut t i o)
 carry-out-alike s t i closed e = refuse-alike s t N.not-open e
-carry-out-alike s t i (does r p c x) e = record { same-number = refl; same-report = refl; agree-again = cleared-agree x (moved s p i c) (moved t p i c) (moved-agree s t p i c e) }
+carry-out-alike s t i (does r p c x) e = record { same-number = refl; same-report = refl; agree-again = remarked-agree x (moved s p i c) (moved t p i c) (moved-agree s t p i c e) }
 
 -- the step on a state and on one with other cells from n on
 other-cells : (s : State) (g : ℕ → Cell) → ((k : ℕ) → k < s .n → s .cell k ≡ g k) → (a : Action) → Alike (step s a) (step (withCells s g) a)
@@ -174,7 +177,7 @@ other-cells s g h a =
     (λ v. go (is-valid s v) (read (s .n) a) (decodes (s .n) a)) (λ e. refuse-alike _ _ _ alike))
   where
     alike : Agree s (withCells s g)
-    alike = record { same-n = refl; same-phase = refl; same-cells = h }
+    alike = record { same-n = refl; same-phase = refl; same-mark = refl; same-cells = h }
 
     go : Valid s → (d : Decoded) → Decodes (s .n) a d → Alike (stepWith s d) (stepWith (withCells s g) d)
     go v (Refused k) q = refuse-alike _ _ k alike
@@ -183,5 +186,6 @@ other-cells s g h a =
 
 pub unread : (s t : State) (a : Action) → Agree s t → Alike (step s a) (step t a)
 unread s t a e =
-    subst (λ n. Alike (step s a) (step (record { n = n; phase = t .phase; cell = t .cell }) a)) (e .same-n)
-    (subst (λ p. Alike (step s a) (step (record { n = s .n; phase = p; cell = t .cell }) a)) (e .same-phase) (other-cells s (t .cell) (e .same-cells) a))
+    subst (λ n. Alike (step s a) (step (record { n = n; phase = t .phase; concatenated = t .concatenated; cell = t .cell }) a)) (e .same-n)
+    (subst (λ p. Alike (step s a) (step (record { n = s .n; phase = p; concatenated = t .concatenated; cell = t .cell }) a)) (e .same-phase)
+    (subst (λ b. Alike (step s a) (step (record { n = s .n; phase = s .phase; concatenated = b; cell = t .cell }) a)) (e .same-mark) (other-cells s (t .cell) (e .same-cells) a)))

@@ -6,13 +6,12 @@ use mathlib.Core.Bool.{Bool, true, false, cond, _&&_, _||_, not, Bool·beq}
 use mathlib.Core.List.{List, [], _∷_}
 use Prim.Native.Nat.{ℕ}
 use lib.Dec.{eqb}
-use lib.ListN.{getD}
 use borrow.Author.Tests.{eqb-true, not-true}
 use Rattle.charts.specs.declared.Head.{Head}
 use Rattle.charts.specs.declared.Seen.the-variants as Sn
 use Rattle.charts.specs.declared.Datum.the-variants as D
 use Rattle.charts.specs.declared.Mode.{Mode}
-use Rattle.charts.specs.declared.Mode.the-variants.{Rest, AwaitAck, AckBody, AckEnd, Opened, Addressed, HeadOwn, HeadAll, BodyOwn, BodyAll, TailOwn, TailAll, Wait, Owed, Sending, Told, Answering, Acking, Holding, Spurious}
+use Rattle.charts.specs.declared.Mode.the-variants.{Rest, AwaitAck, AckBody, AckEnd, Opened, Addressed, HeadOwn, HeadAll, BodyOwn, BodyAll, TailOwn, TailAll, Wait, Owed, Sending, Told, Answering, Acking, Holding, Spurious, Listening}
 use Rattle.charts.specs.declared.Signal.{Signal}
 use Rattle.charts.specs.declared.Report.{Report}
 use Rattle.charts.specs.declared.Report.the-variants.{Silent, Won, Lost, Sent, Acked, Miss, Good, Dcrc, Broad}
@@ -22,8 +21,8 @@ use Rattle.charts.specs.declared.Buffer.the-variants.{Empty, Full}
 use Rattle.charts.specs.declared.Phase.{Phase}
 use Rattle.charts.specs.declared.Cell.{Cell}
 use Rattle.charts.specs.declared.Heard.{Heard}
-use Rattle.charts.specs.declared.Clears.{Clears}
-use Rattle.charts.specs.declared.Clears.the-variants as C
+use Rattle.charts.specs.declared.Marking.{Marking}
+use Rattle.charts.specs.declared.Marking.the-variants as M
 use Rattle.charts.specs.declared.Move.{Move}
 use Rattle.charts.specs.declared.Move.the-variants.{Request, Arbitrate, Respond, Clock, Carry, Grant, GapNext, Reset}
 use Rattle.charts.specs.declared.Action.{Action}
@@ -33,16 +32,16 @@ use Rattle.charts.specs.Signals as S
 use Rattle.charts.specs.Signals.{everybody, classOf, isLine, closes}
 use Rattle.charts.specs.Reception as Reception
 use Rattle.charts.specs.Reception.{hears}
-use Rattle.charts.specs.State.{State, upd, moved, cleared, isEmpty, fresh}
+use Rattle.charts.specs.State.{State, upd, moved, remarked, isEmpty, fresh}
 use Rattle.charts.specs.Actions.{does, granted}
 use Rattle.charts.specs.Step.{Result, step, after, Event, accepted, eventOf, events}
 use Rattle.charts.specs.Demand as Demand
 use Rattle.charts.specs.Demand.{Note, gave, Run, none, run, Book, newBook, isRun, asks, confirms, note, notes, holdsFor, moverOf, nodeOf, moves, reports, enters, bookOf}
-use Rattle.charts.proofs.Tools.{never, clash, implies, implied, and-true, neither, beq-eq, pick, pick-by, table-at, mem}
+use Rattle.charts.proofs.Tools.{never, clash, implies, implied, and-true, neither, beq-eq, pick, pick-by, mem}
 use Rattle.charts.proofs.Words as W
 use Rattle.charts.proofs.Words.{wordOf}
-use Rattle.charts.proofs.Places.{holdIn, stepIn, ackIn, headIn, datumIn, modes, mode-at, mode-is, place-lt, law}
-use Rattle.charts.proofs.Ways.{Puts, start, dhead, dest, header, datum, end-all, end-one, filler, ack-start, ack-body, ack-hold, ack-end, holds-on, Effect, waits, replies, wins, loses, gives, puts, frees, arrives, drops, grants, grants-none, gaps, resets}
+use Rattle.charts.proofs.Places.{holdIn, hold-in, mode-is, law}
+use Rattle.charts.proofs.Ways.{Puts, start, dhead, dest, header, datum, end-all, end-one, filler, ack-start, ack-body, ack-hold, ack-end, holds-on, Effect, waits, replies, wins, loses, gives, puts, frees, arrives, drops, grants, grants-none, gaps, settles, resets}
 use Rattle.charts.proofs.Steps.{Stepped, refused, acts, stepped}
 
 -- a node in such a mode has a started request without confirmation
@@ -92,7 +91,7 @@ by j m g = go m
     go Rest = arm (eqb c S.start) _ _ silent silent
     go AwaitAck = arm (eqb c S.prefix) _ _ silent (arm (eqb c S.start) _ _ silent (arm (eqb c S.gap) _ _ misses misses))
     go AckBody = arm (eqb c S.gap) _ _ misses (arm (isLine c) _ _ misses (arm (eqb c S.ackGood) _ _ silent silent))
-    go (AckEnd (Sn.Ack a)) = arm (closes c) _ _ acks (arm (eqb c S.gap) _ _ misses misses)
+    go (AckEnd (Sn.Ack a)) = arm (eqb c S.end) _ _ acks (arm (eqb c S.prefix) _ _ acks (arm (eqb c S.gap) _ _ misses misses))
     go (AckEnd Sn.Nothing) = arm (eqb c S.gap) _ _ misses misses
     go Opened = arm (eqb c S.gap) _ _ silent (arm (isLine c) _ _ silent silent)
     go Addressed = arm (eqb c S.destOwn) _ _ silent (arm (eqb c S.destAll) _ _ silent (arm (eqb c S.gap) _ _ silent silent))
@@ -112,6 +111,7 @@ by j m g = go m
     go (Acking k a b) = silent
     go Holding = silent
     go Spurious = silent
+    go Listening = arm (eqb c S.start) _ _ silent (arm (eqb c S.prefix) _ _ silent (arm (eqb c S.gap) _ _ silent silent))
 
 -- a report is nothing, or of node i
 pub data Of (i : ℕ) (r : Report) : Type 0 where
@@ -150,17 +150,6 @@ remains me m g e =
 -- nobody comes to AwaitAck by hearing
 awaits : (me : ℕ) (m : Mode) (g : Signal) → eqb (placeOf (hears me m g .mode)) P.awaitAck ≡ true → eqb (placeOf m) P.awaitAck ≡ true
 awaits me m g = implied (eqb (placeOf (hears me m g .mode)) P.awaitAck) _ (law (λ y p c. implies (eqb (y .place) P.awaitAck) (eqb p P.awaitAck)) tt me m g)
-
--- only Acking remembers a hold
-hold-in : (m : Mode) → holdIn m ≡ eqb (placeOf m) P.acking && holdIn m
-hold-in m = ap holdIn (mode-at m) ∙ go (holdIn m)
-  where
-    at : Bool → ℕ → Mode
-    at b p = getD (modes (stepIn m) (ackIn m) b (headIn m) (datumIn m)) p Spurious
-
-    go : (b : Bool) → holdIn (at b (placeOf m)) ≡ eqb (placeOf m) P.acking && b
-    go true = beq-eq _ _ (table-at (λ p. Bool·beq (holdIn (at true p)) (eqb p P.acking && true)) 23 tt (placeOf m) (place-lt m))
-    go false = beq-eq _ _ (table-at (λ p. Bool·beq (holdIn (at false p)) (eqb p P.acking && false)) 23 tt (placeOf m) (place-lt m))
 
 -- hearing a signal changes nothing of a hold
 hears-hold : (me : ℕ) (m : Mode) (g : Signal) → holdOf (hears me m g .mode) ≡ holdOf m
@@ -280,23 +269,24 @@ pub record Names (i : ℕ) (m : Move) (r : Report) : Type 0 where
   pub reporter : Of i r
 
 module _ (s : State) where
-  pub event-names : {m : Move} {i : ℕ} {r : Report} {p : Phase} {c : Cell} {x : Clears} → Effect s m i (does r p c x) → Names i m r
+  pub event-names : {m : Move} {i : ℕ} {r : Report} {p : Phase} {c : Cell} {x : Marking} → Effect s m i (does r p c x) → Names i m r
   event-names (waits e f) = record { mover = λ k b. refl; reporter = nothing refl }
   event-names (replies e) = record { mover = λ k b. refl; reporter = nothing refl }
   event-names (wins q e f w) = record { mover = λ k b. refl; reporter = names refl }
   event-names loses = record { mover = λ k b. refl; reporter = names refl }
-  event-names (gives e) = record { mover = λ k b. refl; reporter = nothing refl }
+  event-names (gives e u) = record { mover = λ k b. refl; reporter = nothing refl }
   event-names (puts q h o x) = record { mover = λ k b. refl; reporter = put x .reporter }
   event-names (frees q h e) = record { mover = λ k b. refl; reporter = nothing refl }
   event-names (arrives {j = j} {t = t} q x) = record { mover = λ k b. refl; reporter = by-of (by j (s .cell j .mode) t) }
   event-names (drops q e) = record { mover = λ k b. refl; reporter = nothing refl }
   event-names (grants q e l) = record { mover = λ k b. refl; reporter = nothing refl }
   event-names (grants-none q e) = record { mover = λ k b. refl; reporter = nothing refl }
-  event-names (gaps {j = j} q) = record { mover = λ k b. refl; reporter = by-of (by j (s .cell j .mode) _) }
+  event-names (gaps {j = j} q u) = record { mover = λ k b. refl; reporter = by-of (by j (s .cell j .mode) _) }
+  event-names (settles {j = j} q u) = record { mover = λ k b. refl; reporter = by-of (by j (s .cell j .mode) _) }
   event-names (resets q) = record { mover = λ k b. refl; reporter = nothing refl }
 
   -- the book of the action's own node
-  own : {m : Move} {i : ℕ} {r : Report} {p : Phase} {c : Cell} {x : Clears} (b : Book) → Effect s m i (does r p c x) → Kept (s .cell i) b → Kept c (reports true r (moves true m b))
+  own : {m : Move} {i : ℕ} {r : Report} {p : Phase} {c : Cell} {x : Marking} (b : Book) → Effect s m i (does r p c x) → Kept (s .cell i) b → Kept c (reports true r (moves true m b))
   own b (waits {i = i} {p = p} e f) v =
       let n : holdOf (s .cell i .mode) ≡ false = ap holdOf (mode-is (s .cell i .mode) P.rest e) in
       subst (λ h. Keeps (s .cell i .mode) (Full p) (s .cell i .sending) (asks h p b)) (sym (v .holds ∙ n))
@@ -309,7 +299,7 @@ module _ (s : State) where
       subst (λ u. Keeps (Sending 0) Empty p (Demand.wins u b)) (sym (v .waits ∙ f))
       (record { right = neither _ _ (v .right) (ap isRun (none-runs _ _ (b .running) (v .runs) (ap ours e))); waits = refl; holds = v .holds ∙ n; runs = (refl, refl); near = λ z. never z })
   own b loses v = v
-  own b (gives {i = i} {a = a} {h = h} e) v =
+  own b (gives {i = i} {a = a} {h = h} e u) v =
       noted (gave i a) {b = holdsFor true h b}
       (record { right = v .right; waits = v .waits; holds = refl; runs = subst (λ m. Runs (ours (placeOf m)) (s .cell i .sending) (b .running)) e (v .runs); near = λ z. never z })
   own b (puts q h o x) v = put x .keeps v
@@ -318,11 +308,12 @@ module _ (s : State) where
   own b (drops q e) v = v
   own b (grants q e l) v = grant v
   own b (grants-none q e) v = v
-  own b (gaps {j = j} q) v = hear j _ v
+  own b (gaps {j = j} q u) v = hear j _ v
+  own b (settles {j = j} q u) v = hear j _ v
   own b (resets q) v = v
 
   -- the book of node k, which is the action's own or another
-  effect-kept : {m : Move} {i : ℕ} {r : Report} {p : Phase} {c : Cell} {x : Clears} (k : ℕ) (b : Book) → Effect s m i (does r p c x) → Kept (s .cell k) b →
+  effect-kept : {m : Move} {i : ℕ} {r : Report} {p : Phase} {c : Cell} {x : Marking} (k : ℕ) (b : Book) → Effect s m i (does r p c x) → Kept (s .cell k) b →
       Kept (upd (s .cell) i c k) (enters k (accepted m r) b)
   effect-kept {m} {i} {r} {p} {c} {x} k b e v =
       let y : Names i m r = event-names e in
@@ -333,10 +324,11 @@ module _ (s : State) where
       go false q = aside-report r (aside-move m v)
 
 -- clearing marks touches no book
-cleared-kept : (x : Clears) (s : State) (k : ℕ) (b : Book) → Kept (s .cell k) b → Kept (cleared x s .cell k) b
-cleared-kept C.Nothing s k b v = v
-cleared-kept C.Misled s k b v = v
-cleared-kept C.Won s k b v = v
+remarked-kept : (x : Marking) (s : State) (k : ℕ) (b : Book) → Kept (s .cell k) b → Kept (remarked x s .cell k) b
+remarked-kept M.Nothing s k b v = v
+remarked-kept M.Misled s k b v = v
+remarked-kept M.Won s k b v = v
+remarked-kept (M.Concatenated c) s k b v = v
 
 -- each step keeps the book of each node
 pub books-kept : (k : ℕ) (s : State) (a : Action) (b : Book) → Kept (s .cell k) b → Kept (step s a .state .cell k) (enters k (eventOf a (step s a)) b)
@@ -344,7 +336,7 @@ books-kept k s a b v = go (step s a) (eventOf a (step s a)) (stepped s a)
   where
     go : (r : Result) (e : Event) → Stepped s a r e → Kept (r .state .cell k) (enters k e b)
     go r e (refused q) = v
-    go r e (acts {i = i} {p = p} {c = c} {x = x} w n l y) = cleared-kept x (moved s p i c) k _ (effect-kept s k b y v)
+    go r e (acts {i = i} {p = p} {c = c} {x = x} w n l y) = remarked-kept x (moved s p i c) k _ (effect-kept s k b y v)
 
 -- and so does each list of actions
 pub run-kept : (k : ℕ) (s : State) (l : List Action) (b : Book) → Kept (s .cell k) b → Kept (after s l .cell k) (bookOf k (events s l) b)

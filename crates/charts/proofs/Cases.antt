@@ -1,6 +1,6 @@
--- Sanity, computed by the checker: the marked cases A to F and I of document 01 as a table, played by the charts, and a refusal of each number that a step gives.
+-- Sanity, computed by the checker: the marked cases A to F and I of document 01 and a reply as a table, played by the charts, and a refusal of each number that a step gives.
 use mathlib.Core.Path.{_≡_, refl}
-use mathlib.Core.Bool.{false, cond, true≢false}
+use mathlib.Core.Bool.{true, false, cond, true≢false}
 use mathlib.Core.List.{List, [], _∷_, _++_, map}
 use Prim.Native.Nat.{ℕ, zero, suc}
 use lib.Dec.{lit≤}
@@ -24,7 +24,8 @@ use Rattle.charts.specs.Actions.{outcome}
 use Rattle.charts.specs.Records.{clean, moveOf, read}
 use Rattle.charts.specs.Valid.{modeFits, cellFits, phaseFits, valid}
 use Rattle.charts.specs.Step.{Result, Event, refuses, play, look, step, begin, after, results, isAccepted}
-use Rattle.charts.specs.Demand.{history}
+use Rattle.charts.specs.Demand as Demand
+use Rattle.charts.specs.Demand.{history, allForward, meetsIdle}
 use Rattle.charts.specs.Stretch.{Witnessed}
 use Rattle.charts.proofs.Whole.{every-ack-of}
 use Rattle.charts.proofs.Steps as S
@@ -130,6 +131,18 @@ afterF =
     take 22 f ++ (clock 2 ∷ respond 1 1 0 ∷ times 3 (clock 1 ∷ pass ∷ pass ∷ []))
     ++ (gap ∷ gap ∷ gap ∷ reset ∷ request 0 2 7 8 ∷ arbitrate 0 ∷ times 6 (clock 0 ∷ pass ∷ pass ∷ []))
 
+-- request 1: B with hold 1; node 1 replies to node 0, who hears it and acknowledges it
+abbrev reply : List Action
+reply =
+    take 15 b ++ (respond 1 1 1 ∷ times 3 (clock 1 ∷ pass ∷ []) ++ (request 1 0 7 8 ∷ times 6 (clock 1 ∷ pass ∷ [])
+    ++ (grant ∷ respond 0 2 0 ∷ times 3 (clock 0 ∷ pass ∷ []) ++ (gap ∷ gap ∷ []))))
+
+-- n = 3: node 1 puts out a filler before it replies to all nodes, and node 0 alone hears it
+abbrev replyAll : List Action
+replyAll =
+    request 0 1 5 6 ∷ arbitrate 0 ∷ times 6 (clock 0 ∷ pass ∷ pass ∷ []) ++ (grant ∷ respond 1 1 1 ∷ times 4 (clock 1 ∷ pass ∷ pass ∷ [])
+    ++ (request 1 63 7 8 ∷ times 6 (clock 1 ∷ pass ∷ pass ∷ []) ++ (gap ∷ gap ∷ gap ∷ [])))
+
 -- a row: the nodes and the actions, and what document 01 says that they show
 pub record Row : Type 0 where
   pub nodes : ℕ
@@ -160,6 +173,11 @@ table =
     ∷ row 3 afterF (at 1 (Won 0) ∷ at 18 (Good 1 (head 5) 6) ∷ at 31 (Acked 0 1) ∷ at 38 (Won 0) ∷ at 56 (Good 2 (head 7) 8) ∷ []) [] 57 Granting
     -- I: "acknowledgement 15 taken, 16 refused": B up to its grant, then respond 16, respond 15, and once more (7: the node is Acking by then)
     ∷ row 2 (take 15 b ++ (respond 1 16 0 ∷ respond 1 15 0 ∷ respond 1 15 0 ∷ [])) (at 1 (Won 0) ∷ at 13 (Good 1 (head 5) 6) ∷ []) (at 15 6 ∷ at 17 7 ∷ []) 16 Busy
+    -- the reply heard and acknowledged
+    ∷ row 2 reply (at 1 (Won 0) ∷ at 13 (Good 1 (head 5) 6) ∷ at 21 (Acked 0 1) ∷ at 34 (Good 0 (head 7) 8) ∷ at 42 (Acked 1 2) ∷ []) [] 45 Idle
+    -- the same, with a respond with hold 1 tried first: 7
+    ∷ row 2 (take 36 reply ++ (respond 0 2 1 ∷ drop 36 reply)) (at 1 (Won 0) ∷ at 13 (Good 1 (head 5) 6) ∷ at 21 (Acked 0 1) ∷ at 34 (Good 0 (head 7) 8) ∷ at 43 (Acked 1 2) ∷ []) (at 36 7 ∷ []) 45 Idle
+    ∷ row 3 replyAll (at 1 (Won 0) ∷ at 18 (Good 1 (head 5) 6) ∷ at 29 (Acked 0 1) ∷ at 50 (Sent 1) ∷ at 51 (Broad 0 (head 7) 8) ∷ []) [] 56 Idle
     ∷ []
 
 pub cases : map (λ (r : Row). shows (r .nodes) (r .actions)) table ≡ map (λ (r : Row). r .shown) table
@@ -170,6 +188,22 @@ cases = refl
 pub b-witnessed : Witnessed 0 1 (take 21 (history 2 b))
 unfolding step look play outcome Actions.request Actions.arbitrate Actions.respond Actions.clock Actions.carry Actions.grant Actions.gap Actions.reset output arrives hears clean moveOf read valid phaseFits cellFits modeFits
 b-witnessed = every-ack-of 2 (lit≤ tt) (lit≤ tt) b (take 21 (history 2 b)) (drop 22 (history 2 b)) (Carry Pass) 0 1 refl
+
+-- an acknowledged reply: the `ack 2` at 42 stands behind a request that started at once
+pub reply-witnessed : Witnessed 1 2 (take 42 (history 2 reply))
+unfolding step look play outcome Actions.request Actions.arbitrate Actions.respond Actions.clock Actions.carry Actions.grant Actions.gap Actions.reset output arrives hears clean moveOf read valid phaseFits cellFits modeFits
+reply-witnessed = every-ack-of 2 (lit≤ tt) (lit≤ tt) reply (take 42 (history 2 reply)) (drop 43 (history 2 reply)) (Carry Pass) 1 2 refl
+
+-- the mark of the bus: set by the Prefix at 20, cleared by the last Gap
+pub reply-marks : map (λ k. after (fresh 2) (take k reply) .concatenated) (20 ∷ 21 ∷ 44 ∷ 45 ∷ []) ≡ false ∷ true ∷ true ∷ false ∷ []
+unfolding step look play outcome Actions.request Actions.arbitrate Actions.respond Actions.clock Actions.carry Actions.grant Actions.gap Actions.reset output arrives hears clean moveOf read valid phaseFits cellFits modeFits
+reply-marks = refl
+
+-- and no shorter bound than 21n + 1 is true: from its `won` on, the reply takes 43 forward actions, and the bus is not Idle before the last of them
+pub reply-longest : (allForward (after (fresh 2) (take 2 reply)) (drop 2 reply) ≡ true) × (Demand.acceptedOf (after (fresh 2) (take 2 reply)) (drop 2 reply) ≡ 43)
+    × (meetsIdle (after (fresh 2) (take 2 reply)) (take 42 (drop 2 reply)) ≡ false)
+unfolding step look play outcome Actions.request Actions.arbitrate Actions.respond Actions.clock Actions.carry Actions.grant Actions.gap Actions.reset output arrives hears clean moveOf read valid phaseFits cellFits modeFits
+reply-longest = (refl, refl, refl)
 
 -- a fresh bus handed out
 abbrev hands : ℕ → Result

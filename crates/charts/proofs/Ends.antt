@@ -1,9 +1,9 @@
--- From every state that a run reaches, 18n forward actions one after the other meet Idle.
+-- From every state that a run reaches, 21n + 2 forward actions one after the other meet Idle.
 use mathlib.Core.Path.{_≡_, refl}
 use mathlib.Core.Bool.{Bool, true, false, _||_, not, true≢false}
 use mathlib.Core.List.{List, [], _∷_}
 use native.Mathlib.Nat.{mul-le-mul-right, mul-le-mul-left, mul-one}
-use Prim.Native.Nat.{ℕ, _<_, _≤_, _+_, _*_}
+use Prim.Native.Nat.{ℕ, _<_, _≤_, _+_, _-_, _*_}
 use native.Mathlib.Omega.{arith}
 use lib.Dec.{leb}
 use borrow.Author.Tests.{leb-true}
@@ -17,7 +17,7 @@ use Rattle.charts.specs.Step.{Result, step, after, Event, eventOf, isAcc
 use Rattle.charts.specs.Demand.{one, forward, isOpen, acceptedOf, allForward, meetsIdle, bound}
 use Rattle.charts.proofs.Tools.{and-true, or-false, pick, table-at, mem}
 use Rattle.charts.proofs.Steps.{Stepped, refused, acts, stepped}
-use Rattle.charts.proofs.Stages.{rowAt, turnAt, talks, clears, Stage, weights, bonus, rank}
+use Rattle.charts.proofs.Stages.{rowAt, turnAt, talks, clears, Stage, weights, bonus, clearRank, rank}
 use Rattle.charts.proofs.Reach.{Reach}
 use Rattle.charts.proofs.Sums.{total-le, weigh-le, left-pos, left-lt}
 use Rattle.charts.proofs.Progress.{effect-reach}
@@ -25,32 +25,42 @@ use Rattle.charts.specs.Modes as P
 use Rattle.charts.proofs.Places.{stepOf}
 
 abbrev pub toGo : (s : State) → Reach s → ℕ
-toGo s r = rank (s .phase) (s .n) (s .cell) (r .stage)
+toGo s r = rank (s .concatenated) (s .phase) (s .n) (s .cell) (r .stage)
 
--- what is left is at most 18n, and something is left outside Idle
-small : (x y n : ℕ) → x + y ≤ 18 → 1 ≤ n → x * n + y ≤ 18 * n
+-- what is left is at most 21n + 1, and something is left outside Idle
+small : (x y n : ℕ) → x + y ≤ 21 → 1 ≤ n → x * n + y ≤ 21 * n
 small x y n h l = omega (arith, mul-le-mul-right n h, mul-le-mul-left y l, mul-one y)
 
 bonus-le : (c : ℕ) → bonus c ≤ 1
 bonus-le c = pick (λ x. x ≤ 1) (mem c (P.answering ∷ P.holding ∷ [])) _ _ (omega arith) (omega arith)
 
-rank-le : (p : Phase) (n : ℕ) (f : ℕ → Cell) → 2 ≤ n → (a : Stage p n f) → rank p n f a ≤ 18 * n
-rank-le Idle n f h a = omega arith
-rank-le Busy n f h (talks a) = small _ _ n (leb-true _ 18 (table-at (λ t. leb (turnAt t .turns + turnAt t .more) 18) 15 tt (a .t) (a .t-lt))) (omega arith)
-rank-le Busy n f h (clears a y) = omega (arith, total-le (weights f) n (λ k. weigh-le (f k .mode)))
-rank-le (Delivering w g j) n f h a =
-    let z : (rowAt (a .d) .turns + 1) * n + rowAt (a .d) .more ≤ 18 * n = small (rowAt (a .d) .turns + 1) (rowAt (a .d) .more) n (leb-true _ 18 (table-at (λ d. leb (rowAt d .turns + 1 + rowAt d .more) 18) 18 tt (a .d) (a .d-lt))) (omega arith) in
-    omega (arith, left-lt w j n (omega arith), bonus-le (stepOf (f w .mode)))
-rank-le Granting n f h a = omega (arith, total-le (weights f) n (λ k. weigh-le (f k .mode)))
-rank-le (Gapping j) n f h a = omega arith
+clear-le : (b : Bool) (n : ℕ) (f : ℕ → Cell) → 2 ≤ n → clearRank b n f ≤ 21 * n + 1
+clear-le true n f h = omega (arith, total-le (weights f) n (λ k. weigh-le (f k .mode)))
+clear-le false n f h = omega (arith, total-le (weights f) n (λ k. weigh-le (f k .mode)))
 
-rank-pos : (p : Phase) (n : ℕ) (f : ℕ → Cell) → 2 ≤ n → (a : Stage p n f) → isIdle p ≡ false → 0 < rank p n f a
-rank-pos Idle n f h a e = absurd (true≢false e)
-rank-pos Busy n f h (talks a) e = omega (arith, mul-le-mul-right n (leb-true 1 (turnAt (a .t) .turns) (table-at (λ t. leb 1 (turnAt t .turns)) 15 tt (a .t) (a .t-lt))))
-rank-pos Busy n f h (clears a y) e = omega arith
-rank-pos (Delivering w g j) n f h a e = omega (arith, left-pos w j n (a .here) (a .next-lt) (a .apart))
-rank-pos Granting n f h a e = omega arith
-rank-pos (Gapping j) n f h a e = omega (arith, a .gap-lt)
+rank-le : (b : Bool) (p : Phase) (n : ℕ) (f : ℕ → Cell) → 2 ≤ n → (a : Stage b p n f) → rank b p n f a ≤ 21 * n + 1
+rank-le b Idle n f h a = omega arith
+rank-le b Busy n f h (talks a) =
+    omega (arith, small (turnAt (a .t) .turns) (turnAt (a .t) .more - 1) n (leb-true _ 21 (table-at (λ t. leb (turnAt t .turns + (turnAt t .more - 1)) 21) 17 tt (a .t) (a .t-lt))) (omega arith))
+rank-le b Busy n f h (clears a) = clear-le b n f h
+rank-le b (Delivering w g j) n f h a =
+    let z : (rowAt (a .d) .turns + 1) * n + (rowAt (a .d) .more - 1) ≤ 21 * n = small (rowAt (a .d) .turns + 1) (rowAt (a .d) .more - 1) n
+    (leb-true _ 21 (table-at (λ d. leb (rowAt d .turns + 1 + (rowAt d .more - 1)) 21) 22 tt (a .d) (a .d-lt))) (omega arith) in
+    omega (arith, left-lt w j n (omega arith), bonus-le (stepOf (f w .mode)))
+rank-le b Granting n f h a = clear-le b n f h
+rank-le b (Gapping j) n f h a = omega arith
+
+clear-pos : (b : Bool) (n : ℕ) (f : ℕ → Cell) → 2 ≤ n → 0 < clearRank b n f
+clear-pos true n f h = omega arith
+clear-pos false n f h = omega arith
+
+rank-pos : (b : Bool) (p : Phase) (n : ℕ) (f : ℕ → Cell) → 2 ≤ n → (a : Stage b p n f) → isIdle p ≡ false → 0 < rank b p n f a
+rank-pos b Idle n f h a e = absurd (true≢false e)
+rank-pos b Busy n f h (talks a) e = omega (arith, mul-le-mul-right n (leb-true 1 (turnAt (a .t) .turns) (table-at (λ t. leb 1 (turnAt t .turns)) 17 tt (a .t) (a .t-lt))))
+rank-pos b Busy n f h (clears a) e = clear-pos b n f h
+rank-pos b (Delivering w g j) n f h a e = omega (arith, left-pos w j n (a .here) (a .next-lt) (a .apart))
+rank-pos b Granting n f h a e = clear-pos b n f h
+rank-pos b (Gapping j) n f h a e = omega (arith, a .gap-lt)
 
 -- a step keeps what every reached state has
 pub step-reach : (s : State) (a : Action) → Reach s → Reach (step s a .state)
@@ -66,7 +76,7 @@ run-reach s (a ∷ l) r = run-reach (step s a .state) l (step-reach s a r)
 
 -- a continuation of forward actions that does not meet Idle is shorter than what was left
 shorter : (s : State) (r : Reach s) (l : List Action) → allForward s l ≡ true → meetsIdle s l ≡ false → acceptedOf s l < toGo s r
-shorter s r [] f m = rank-pos (s .phase) (s .n) (s .cell) (r .two) (r .stage) m
+shorter s r [] f m = rank-pos (s .concatenated) (s .phase) (s .n) (s .cell) (r .two) (r .stage) m
 shorter s r (a ∷ l) f m =
     let z = and-true (not (isOpen s a) || forward s (moveOf a)) _ f in
     go (step s a) (eventOf a (step s a)) (stepped s a) (λ t u. shorter t u l) (z .0) (z .1) (or-false (isIdle (s .phase)) _ m .1)
@@ -76,10 +86,10 @@ shorter s r (a ∷ l) f m =
     go x e (refused q) h y f m = rw q (omega (arith, h s r f m))
     go x e (acts {i = i} {r = q} {p = p} {c = c} {x = z} v k b w) h y f m = let u = effect-reach s r (moveOf a) i q p c z b w in omega (arith, h _ (u .0) f m, u .1 y)
 
--- any continuation whose accepted actions are all forward, 18n in number, meets Idle
+-- any continuation whose accepted actions are all forward, 21n + 2 in number, meets Idle
 pub meets : (s : State) (r : Reach s) (c : List Action) → allForward s c ≡ true → acceptedOf s c ≡ bound (s .n) → meetsIdle s c ≡ true
 meets s r c f g = go (meetsIdle s c) refl
   where
     go : (b : Bool) → meetsIdle s c ≡ b → b ≡ true
     go true e = refl
-    go false e = absurd (omega (arith, shorter s r c f e, rank-le (s .phase) (s .n) (s .cell) (r .two) (r .stage)))
+    go false e = absurd (omega (arith, shorter s r c f e, rank-le (s .concatenated) (s .phase) (s .n) (s .cell) (r .two) (r .stage)))

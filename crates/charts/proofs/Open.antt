@@ -3,7 +3,7 @@ use mathlib.Core.Path.{_≡_, refl, sym, ap, subst, _∙_}
 use mathlib.Core.Logic.{_≢_}
 use mathlib.Core.Bool.{Bool, true, false, cond, _&&_, _||_, not, true≢false}
 use mathlib.Core.List.{[], _∷_}
-use Prim.Native.Nat.{ℕ, _<_}
+use Prim.Native.Nat.{ℕ, suc, _<_}
 use lib.Dec.{eqb, ltb, leb}
 use borrow.Author.Tests.{eqb-true, lt-ltb}
 use Rattle.charts.specs.declared.Mode.{Mode}
@@ -15,7 +15,7 @@ use Rattle.charts.specs.declared.Phase.{Phase}
 use Rattle.charts.specs.declared.Phase.the-variants.{Idle, Busy, Delivering, Granting, Gapping}
 use Rattle.charts.specs.declared.Report.{Report}
 use Rattle.charts.specs.declared.Cell.{Cell}
-use Rattle.charts.specs.declared.Clears.{Clears}
+use Rattle.charts.specs.declared.Marking.{Marking}
 use Rattle.charts.specs.declared.Packet.{Packet}
 use Rattle.charts.specs.declared.Way.the-variants.{Pass}
 use Rattle.charts.specs.declared.Move.{Move}
@@ -30,19 +30,19 @@ use Rattle.charts.specs.Outputs.{output}
 use Rattle.charts.specs.Arrivals as Arrivals
 use Rattle.charts.specs.State.{State, pendings, holders, some, others, lowest, isIdle, isBusy, isGranting, isEmpty}
 use Rattle.charts.specs.Actions as Actions
-use Rattle.charts.specs.Actions.{Outcome, does, when}
+use Rattle.charts.specs.Actions.{Outcome, does, when, mayAnswer}
 use Rattle.charts.specs.Records.{clean, moveOf, read}
 use Rattle.charts.specs.Valid.{valid}
 use Rattle.charts.specs.Step.{carryOut, about, comesTo, play, look, stepWith, step, isAccepted}
 use Rattle.charts.specs.Demand.{forward, isForward}
-use Rattle.charts.proofs.Tools.{never, clash, implies, implied, pick, none-of, lowest-of, lowest-lt, others-none, table-at, mem, mem-one, neither, or-yes}
+use Rattle.charts.proofs.Tools.{never, clash, implies, implied, both, and-no, pick, none-of, lowest-of, lowest-lt, others-none, table-at, mem, mem-one, neither, or-yes}
 use Rattle.charts.proofs.Places.{law-mode, active, stepIn, ackIn, holdIn, stepOf, mode-is}
 use Rattle.charts.proofs.Stages.{turnAt, clearSteps, acting, BusyAt, talks, clears, Stage}
 use Rattle.charts.proofs.Reach.{Reach, answerers, is-talker}
 use Rattle.charts.proofs.Progress.{acting-step, odd-clear}
 
 pub data Opens : Outcome → Type 0 where
-  opens : {r : Report} {p : Phase} {c : Cell} {x : Clears} → Opens (does r p c x)
+  opens : {r : Report} {p : Phase} {c : Cell} {x : Marking} → Opens (does r p c x)
 
 open-when : (b : Bool) (o : Outcome) → b ≡ true → Opens o → Opens (when b o)
 open-when true o e x = x
@@ -135,7 +135,7 @@ module _ (s : State) (v : valid s ≡ true) where
       where
         go : (x y : Bool) → isHolding (s .cell i .mode) ≡ x → isAnswering (s .cell i .mode) ≡ y → Found
         go true y p q = is-open (bare 1 i 63) (Request i (nothing-to 63)) refl (read-request i l) (pick Opens (isRest (s .cell i .mode) && isEmpty (s .cell i .buffer)) _ _ opens (open-when (isHolding (s .cell i .mode)) _ p opens)) p
-        go false true p q = is-open (bare 3 i 0) (Respond i 0 false) refl (read-respond i l) (open-when (isAnswering (s .cell i .mode)) _ q opens) refl
+        go false true p q = is-open (bare 3 i 0) (Respond i 0 false) refl (read-respond i l) (open-when (isAnswering (s .cell i .mode) && mayAnswer (s .concatenated) false) _ (both _ _ q (ap not (and-no (s .concatenated)))) opens) refl
         go false false p q = is-open (bare 4 i 0) (Clock i) refl (read-clock i l) (open-when (isBusy (s .phase)) _ (ap isBusy b) (clock-opens t)) (ap not (neither _ _ q p))
           where
             t : mem (placeOf (s .cell i .mode)) (P.sending ∷ P.acking ∷ P.spurious ∷ []) ≡ true
@@ -153,12 +153,12 @@ module _ (s : State) (v : valid s ≡ true) where
         go k l q true e = absurd (q (u k l e))
         go k l q false e = refl
 
-    busy-opens : s .phase ≡ Busy → BusyAt (s .n) (s .cell) → Found
-    busy-opens b (talks a) = holder-opens (a .w) (a .here) (r .marks (a .w) .1 ∙ e) (λ z. sole-holder (a .w) (is-talker (s .n) (s .cell) a)) b e
+    busy-opens : s .phase ≡ Busy → BusyAt (s .concatenated) (s .n) (s .cell) → Found
+    busy-opens b (talks a) = holder-opens (a .w) (a .here) (r .marks (a .w) .1 ∙ e) (λ z. sole-holder (a .w) (is-talker (s .concatenated) (s .n) (s .cell) a)) b e
       where
         e : active (placeOf (s .cell (a .w) .mode)) ≡ true
-        e = acting-step (s .cell (a .w) .mode) (ap (λ c. leb 30 c || active c) (a .talker) ∙ table-at (λ t. leb 30 (turnAt t .step) || active (turnAt t .step)) 15 tt (a .t) (a .t-lt))
-    busy-opens b (clears a y) = go (some stray (s .n)) refl
+        e = acting-step (s .cell (a .w) .mode) (ap (λ c. leb 30 c || active c) (a .talker) ∙ table-at (λ t. leb 30 (turnAt t .step) || active (turnAt t .step)) 17 tt (a .t) (a .t-lt))
+    busy-opens b (clears a) = go (some stray (s .n)) refl
       where
         go : (x : Bool) → some stray (s .n) ≡ x → Found
         go true q = holder-opens i (lowest-lt stray (s .n) 0 q) (r .marks i .1 ∙ e) (λ z. clash _ (lowest-of stray (s .n) 0 q) z) b e
@@ -174,22 +174,22 @@ module _ (s : State) (v : valid s ≡ true) where
             i = lowest (acting (s .cell)) (s .n) 0
 
             l : i < s .n
-            l = lowest-lt (acting (s .cell)) (s .n) 0 y
+            l = lowest-lt (acting (s .cell)) (s .n) 0 (a .acts)
 
             e : active (placeOf (s .cell i .mode)) ≡ true
-            e = lowest-of (acting (s .cell)) (s .n) 0 y
+            e = lowest-of (acting (s .cell)) (s .n) 0 (a .acts)
 
             answers : (k : ℕ) → k < s .n → active (placeOf (s .cell k .mode)) ≡ true → mem (placeOf (s .cell k .mode)) answerers ≡ true
-            answers k m u = clear-answers (s .cell k .mode) (a k m) u (none-of stray (s .n) q k m)
+            answers k m u = clear-answers (s .cell k .mode) (a .steps k m) u (none-of stray (s .n) q k m)
 
     -- outside Idle a forward action is open
     pub some-open : isIdle (s .phase) ≡ false → Found
     unfolding read clean moveOf Actions.outcome Actions.carry Arrivals.arrives Actions.grant Actions.gap
     some-open e = go (s .phase) refl (r .stage) e
       where
-        go : (p : Phase) → s .phase ≡ p → Stage p (s .n) (s .cell) → isIdle p ≡ false → Found
+        go : (p : Phase) → s .phase ≡ p → Stage (s .concatenated) p (s .n) (s .cell) → isIdle p ≡ false → Found
         go Idle q a e = absurd (true≢false e)
         go Busy q a e = busy-opens q a
         go (Delivering w g j) q a e = is-open (bare 5 0 0) (Carry Pass) refl refl (subst (λ p. Opens (Actions.carry (s .n) p (s .cell (Actions.nextOf p)) (pendings (s .cell)) Pass)) (sym q) opens) refl
         go Granting q a e = is-open (bare 8 0 0) Grant refl refl (open-when (isGranting (s .phase)) _ (ap isGranting q) (pick Opens (some (pendings (s .cell)) (s .n)) _ _ opens opens)) refl
-        go (Gapping j) q a e = is-open (bare 9 0 0) GapNext refl refl (subst (λ p. Opens (Actions.gap (s .n) p (s .cell (Actions.nextOf p)))) (sym q) opens) refl
+        go (Gapping j) q a e = is-open (bare 9 0 0) GapNext refl refl (subst (λ p. Opens (Actions.gap (s .n) p (s .cell (Actions.nextOf p)))) (sym q) (pick Opens (ltb (suc j) (s .n)) _ _ opens opens)) refl

@@ -4,7 +4,7 @@ use mathlib.Core.Path.{_≡_, refl, sym, ap, subst, _∙_}
 use mathlib.Core.Logic.{_≢_}
 use mathlib.Core.Bool.{Bool, true, false, _&&_, _||_, not}
 use mathlib.Core.List.{List, [], _∷_}
-use Prim.Native.Nat.{ℕ, suc, _<_}
+use Prim.Native.Nat.{ℕ, _<_}
 use native.Mathlib.Omega.{arith}
 use lib.Dec.{T, eqb, ltb}
 use lib.ListN.{getD}
@@ -24,7 +24,8 @@ use Rattle.charts.specs.declared.Phase.the-variants.{Idle, Busy, Deliver
 use Rattle.charts.specs.declared.Cell.{Cell}
 use Rattle.charts.specs.declared.Heard.{Heard}
 use Rattle.charts.specs.declared.Way.{Way}
-use Rattle.charts.specs.declared.Clears.{Clears}
+use Rattle.charts.specs.declared.Marking.{Marking}
+use Rattle.charts.specs.declared.Marking.the-variants as M
 use Rattle.charts.specs.declared.Move.{Move}
 use Rattle.charts.specs.Modes as P
 use Rattle.charts.specs.Modes.{placeOf, isTold, isOwed}
@@ -32,14 +33,14 @@ use Rattle.charts.specs.Signals as S
 use Rattle.charts.specs.Signals.{everybody, classOf, kindOf, closes, headOf, datumOf, ackOf, isEnd}
 use Rattle.charts.specs.Reception.{hears, falls}
 use Rattle.charts.specs.Arrivals.{passed}
-use Rattle.charts.specs.State.{State, every, some, others, pendings, holders, moved, cleared, fresh}
-use Rattle.charts.specs.Actions.{does, firstOther, nextOther, onward, granted, putsOut, clearedBy}
+use Rattle.charts.specs.State.{State, every, some, others, pendings, holders, moved, remarked, fresh}
+use Rattle.charts.specs.Actions.{does, firstOther, nextOther, onward, granted, putsOut, markingBy}
 use Rattle.charts.proofs.Tools.{never, clash, implies, implied, and-true, or-false, or-no, or-yes, pick, pick-by, at-upd, at-upd≢, mem, everyIn, mem-sub, by-test}
 use Rattle.charts.proofs.Words as W
 use Rattle.charts.proofs.Words.{wordOf}
 use Rattle.charts.proofs.Places.{mode-is, law, law-mode, active, stepOf, sendingAt, ackingAt}
 use Rattle.charts.proofs.Stages.{Row, rowAt, turnAt, quiet, grantSteps, clearSteps, Delivery, Talk, BusyAt, talks, clears, Stage}
-use Rattle.charts.proofs.Ways.{Puts, start, dhead, dest, header, datum, end-all, end-one, filler, ack-start, ack-body, ack-hold, ack-end, holds-on, Arrives, passes, redirects, bad-header, bad-data, bad-ack, Effect, waits, replies, wins, loses, gives, puts, frees, arrives, drops, grants, grants-none, gaps, resets}
+use Rattle.charts.proofs.Ways.{Puts, start, dhead, dest, header, datum, end-all, end-one, filler, ack-start, ack-body, ack-hold, ack-end, holds-on, Arrives, passes, redirects, bad-header, bad-data, bad-ack, Effect, waits, replies, wins, loses, gives, puts, frees, arrives, drops, grants, grants-none, gaps, settles, resets}
 use Rattle.charts.proofs.Reach.{Reach, answerers, is-talker, is-sender, row-fact, turn-fact, no-turn, not-clearing, sole-quiet}
 
 -- the nodes other than i are in places of `room`
@@ -48,7 +49,7 @@ OthersIn room n f i = (k : ℕ) → k < n → k ≢ i → mem (placeOf (f k .mod
 
 -- a node in such a mode remembers nothing of a packet
 abbrev pub blank : List ℕ
-blank = P.rest ∷ P.awaitAck ∷ P.ackBody ∷ P.ackGood ∷ P.ackNone ∷ P.opened ∷ P.addressed ∷ P.wait ∷ P.owed ∷ P.sending ∷ P.holding ∷ P.spurious ∷ []
+blank = P.rest ∷ P.awaitAck ∷ P.ackBody ∷ P.ackGood ∷ P.ackNone ∷ P.opened ∷ P.addressed ∷ P.wait ∷ P.owed ∷ P.sending ∷ P.holding ∷ P.spurious ∷ P.listening ∷ []
 
 -- good data are the packet's; of bad data nothing is kept
 abbrev pub Read : Packet → Datum → Type 0
@@ -230,13 +231,17 @@ one-responder p s v j k l h e f = sym (answers-to e (v .all j l)) ∙ answers-to
 -- EACH WAY IN WHICH AN ACTION ACTS
 -- places of the other nodes where a packet may start: they remember nothing and have no packet of their own under way
 abbrev pub past : List ℕ
-past = P.rest ∷ P.ackBody ∷ P.ackGood ∷ P.ackNone ∷ P.opened ∷ P.addressed ∷ P.wait ∷ []
+past = P.rest ∷ P.ackBody ∷ P.ackGood ∷ P.ackNone ∷ P.opened ∷ P.addressed ∷ P.wait ∷ P.listening ∷ []
 
 -- after an action with report r: the packet that was started last, and r tells of the one that was so before
 pub record Carries (p : Packet) (r : Report) (s : State) : Type 0 where
   pub packet : Packet
   pub carry : Carry packet s
   pub tells : Tells p r
+
+-- the mark of the bus says nothing of packets
+remarked-carries : {p : Packet} {r : Report} {s : State} (b : Bool) → Carries p r s → Carries p r (remarked (M.Concatenated b) s)
+remarked-carries b c = record { packet = c .packet; carry = record { all = c .carry .all; signal = c .carry .signal; own = c .carry .own }; tells = c .tells }
 
 module _ (p : Packet) (s : State) (v : Carry p s) where
   -- cell i changes, and the packet stays
@@ -277,33 +282,33 @@ module _ (p : Packet) (s : State) (v : Carry p s) where
 abbrev pub inRow : List ℕ → Row → Bool
 inRow room r = everyIn (r .before) room && everyIn (r .after) room
 
-pub in-row : (n : ℕ) (f : ℕ → Cell) (w : ℕ) (g : Signal) (j : ℕ) (a : Delivery n f w g j) (room : List ℕ) → inRow room (rowAt (a .d)) ≡ true → OthersIn room n f w
-in-row n f w g j a room t k h o =
+pub in-row : (b : Bool) (n : ℕ) (f : ℕ → Cell) (w : ℕ) (g : Signal) (j : ℕ) (a : Delivery b n f w g j) (room : List ℕ) → inRow room (rowAt (a .d)) ≡ true → OthersIn room n f w
+in-row b n f w g j a room t k h o =
     let y = and-true (everyIn (rowAt (a .d) .before) room) _ t in
     by-test (ltb k j) (λ e. mem-sub (rowAt (a .d) .after) room (y .1) (placeOf (f k .mode)) (a .after k h o (ltb-true k j e)))
     (λ e. mem-sub (rowAt (a .d) .before) room (y .0) (placeOf (f k .mode)) (a .before k h o (ltb-false k j e)))
 
-module _ (n : ℕ) (f : ℕ → Cell) (i : ℕ) (l : i < n) (acts : active (placeOf (f i .mode)) ≡ true) (c : ℕ) (at : stepOf (f i .mode) ≡ c) (room : List ℕ) where
-  pub row-in : (w : ℕ) (g : Signal) (j : ℕ) → Delivery n f w g j → T (every (λ d. implies (mem c (rowAt d .sender)) (inRow room (rowAt d))) 18) → OthersIn room n f i
+module _ (b : Bool) (n : ℕ) (f : ℕ → Cell) (i : ℕ) (l : i < n) (acts : active (placeOf (f i .mode)) ≡ true) (c : ℕ) (at : stepOf (f i .mode) ≡ c) (room : List ℕ) where
+  pub row-in : (w : ℕ) (g : Signal) (j : ℕ) → Delivery b n f w g j → T (every (λ d. implies (mem c (rowAt d .sender)) (inRow room (rowAt d))) 22) → OthersIn room n f i
   row-in w g j a t k h q =
-      let o : i ≡ w = is-sender n f w g j a i l acts in
-      in-row n f w g j a room (row-fact n f w g j a c (ap (λ k. stepOf (f k .mode)) (sym o) ∙ at) (inRow room) t) k h (λ z. q (z ∙ sym o))
+      let o : i ≡ w = is-sender b n f w g j a i l acts in
+      in-row b n f w g j a room (row-fact b n f w g j a c (ap (λ k. stepOf (f k .mode)) (sym o) ∙ at) (inRow room) t) k h (λ z. q (z ∙ sym o))
 
-  pub turn-in : Talk n f → T (every (λ t. implies (eqb (turnAt t .step) c) (everyIn (turnAt t .room) room)) 15) → OthersIn room n f i
+  pub turn-in : Talk b n f → T (every (λ t. implies (eqb (turnAt t .step) c) (everyIn (turnAt t .room) room)) 17) → OthersIn room n f i
   turn-in a t k h q =
-      let o : i ≡ a .w = is-talker n f a i l acts in
-      mem-sub (turnAt (a .t) .room) room (turn-fact n f a c (ap (λ k. stepOf (f k .mode)) (sym o) ∙ at) (λ t. everyIn (t .room) room) t) (placeOf (f k .mode)) (a .room k h (λ z. q (z ∙ sym o)))
+      let o : i ≡ a .w = is-talker b n f a i l acts in
+      mem-sub (turnAt (a .t) .room) room (turn-fact b n f a c (ap (λ k. stepOf (f k .mode)) (sym o) ∙ at) (λ t. everyIn (t .room) room) t) (placeOf (f k .mode)) (a .room k h (λ z. q (z ∙ sym o)))
 
 module _ (p : Packet) (s : State) (v : Carry p s) (re : Reach s) (i : ℕ) (l : i < s .n) where
   -- where node i holds the bus no other remembers a packet, and only a Prefix can be under way
-  pub holding-past : s .cell i .mode ≡ Holding → (ph : Phase) → Stage ph (s .n) (s .cell) → OthersIn past (s .n) (s .cell) i × ((q : Packet) → SaysAt q ph)
-  holding-past e Idle a = absurd (let z : P.holding ≡ P.rest = sym (ap placeOf e) ∙ a i l in omega arith)
-  holding-past e Busy (talks a) = (turn-in (s .n) (s .cell) i l (ap (λ m. active (placeOf m)) e) P.holding (ap stepOf e) past a tt, λ q. tt)
-  holding-past e Busy (clears a y) = absurd (not-clearing (s .n) (s .cell) a i l (ap (λ m. mem (stepOf m) clearSteps) e))
+  pub holding-past : s .cell i .mode ≡ Holding → (ph : Phase) → Stage (s .concatenated) ph (s .n) (s .cell) → OthersIn past (s .n) (s .cell) i × ((q : Packet) → SaysAt q ph)
+  holding-past e Idle a = absurd (let z : P.holding ≡ P.rest = sym (ap placeOf e) ∙ a .resting i l in omega arith)
+  holding-past e Busy (talks a) = (turn-in (s .concatenated) (s .n) (s .cell) i l (ap (λ m. active (placeOf m)) e) P.holding (ap stepOf e) past a tt, λ q. tt)
+  holding-past e Busy (clears a) = absurd (not-clearing (s .n) (s .cell) (a .steps) i l (ap (λ m. mem (stepOf m) clearSteps) e))
   holding-past e (Delivering w g j) a =
-      let o : i ≡ w = is-sender (s .n) (s .cell) w g j a i l (ap (λ m. active (placeOf m)) e) in
-      let y = row-fact (s .n) (s .cell) w g j a P.holding (ap (λ k. stepOf (s .cell k .mode)) (sym o) ∙ ap stepOf e) (λ r. eqb (r .kind) (kindOf Prefix)) tt in
-      (row-in (s .n) (s .cell) i l (ap (λ m. active (placeOf m)) e) P.holding (ap stepOf e) past w g j a tt, λ q. prefix-says q g (a .kind ∙ eqb-true _ _ y))
+      let o : i ≡ w = is-sender (s .concatenated) (s .n) (s .cell) w g j a i l (ap (λ m. active (placeOf m)) e) in
+      let y = row-fact (s .concatenated) (s .n) (s .cell) w g j a P.holding (ap (λ k. stepOf (s .cell k .mode)) (sym o) ∙ ap stepOf e) (λ r. eqb (r .kind) (kindOf Prefix)) tt in
+      (row-in (s .concatenated) (s .n) (s .cell) i l (ap (λ m. active (placeOf m)) e) P.holding (ap stepOf e) past w g j a tt, λ q. prefix-says q g (a .kind ∙ eqb-true _ _ y))
   holding-past e Granting a = clash _ (a .steps i l) (ap (λ m. mem (stepOf m) grantSteps) e)
   holding-past e (Gapping j) a = clash _ (a .calm i l) (ap (λ m. mem (placeOf m) quiet) e)
 
@@ -314,8 +319,8 @@ module _ (p : Packet) (s : State) (v : Carry p s) (re : Reach s) (i : ℕ) (l : 
   on : {g : Signal} {m : Mode} {r : Report} → Says p false g → ltb (wordOf r) W.good ≡ true → Bears p i (s .cell i .misled) m → (sends (placeOf m) ≡ true → s .cell i .sending ≡ p) → Carries p r (Out g m)
   on z t a b = record { packet = p; carry = changes p s v _ i _ z a b; tells = told-none t }
 
-  opens : {m : Mode} → ((w : Bool) → Bears p i w m) → (sends (placeOf m) ≡ true → s .cell i .sending ≡ p) → OthersIn blank (s .n) (s .cell) i → Carries p Silent (cleared (clearedBy Start) (Out Start m))
-  opens {m} a b f = record {
+  opens : {m : Mode} (m₀ : Mode) → ((w : Bool) → Bears p i w m) → (sends (placeOf m) ≡ true → s .cell i .sending ≡ p) → OthersIn blank (s .n) (s .cell) i → Carries p Silent (remarked (markingBy m₀ Start) (Out Start m))
+  opens {m} m₀ a b f = record {
     packet = p;
     carry = record {
       all = λ k h. at-upd≢ (λ k x. k < s .n → (w : Bool) → Bears p k w (x .mode)) (s .cell) i (putsOut Start m (s .cell i)) k (λ l. a) (λ o l w. nothing (f k l o)) h _;
@@ -326,18 +331,18 @@ module _ (p : Packet) (s : State) (v : Carry p s) (re : Reach s) (i : ℕ) (l : 
   }
 
   -- a Start on a Busy bus: of the node whose turn it is, or of the only holder while the bus clears
-  first-sent : BusyAt (s .n) (s .cell) → s .cell i .mode ≡ Sending 0 → OthersIn blank (s .n) (s .cell) i
-  first-sent (talks a) e = turn-in (s .n) (s .cell) i l (ap (λ m. active (placeOf m)) e) (sendingAt 0) (ap stepOf e) blank a tt
-  first-sent (clears a y) e = absurd (not-clearing (s .n) (s .cell) a i l (ap (λ m. mem (stepOf m) clearSteps) e))
+  first-sent : BusyAt (s .concatenated) (s .n) (s .cell) → s .cell i .mode ≡ Sending 0 → OthersIn blank (s .n) (s .cell) i
+  first-sent (talks a) e = turn-in (s .concatenated) (s .n) (s .cell) i l (ap (λ m. active (placeOf m)) e) (sendingAt 0) (ap stepOf e) blank a tt
+  first-sent (clears a) e = absurd (not-clearing (s .n) (s .cell) (a .steps) i l (ap (λ m. mem (stepOf m) clearSteps) e))
 
-  first-acked : BusyAt (s .n) (s .cell) → (a : ℕ) (b : Bool) → s .cell i .mode ≡ Acking 0 a b → others (holders (s .cell)) i (s .n) ≡ false → OthersIn blank (s .n) (s .cell) i
+  first-acked : BusyAt (s .concatenated) (s .n) (s .cell) → (a : ℕ) (b : Bool) → s .cell i .mode ≡ Acking 0 a b → others (holders (s .cell)) i (s .n) ≡ false → OthersIn blank (s .n) (s .cell) i
   first-acked (talks a) c b e only k h q =
-      let o : i ≡ a .w = is-talker (s .n) (s .cell) a i l (ap (λ m. active (placeOf m)) e) in
-      absurd (no-turn (s .n) (s .cell) a (ackingAt 0) tt (ap (λ k. stepOf (s .cell k .mode)) (sym o) ∙ ap stepOf e))
-  first-acked (clears a y) c b e only k h q = mem-sub quiet blank refl (placeOf (s .cell k .mode)) (sole-quiet s (re .marks) a i only k h q)
+      let o : i ≡ a .w = is-talker (s .concatenated) (s .n) (s .cell) a i l (ap (λ m. active (placeOf m)) e) in
+      absurd (no-turn (s .concatenated) (s .n) (s .cell) a (ackingAt 0) tt (ap (λ k. stepOf (s .cell k .mode)) (sym o) ∙ ap stepOf e))
+  first-acked (clears a) c b e only k h q = mem-sub quiet blank refl (placeOf (s .cell k .mode)) (sole-quiet s (re .marks) (a .steps) i only k h q)
 
-  puts-out : {m₀ m : Mode} {g : Signal} {r : Report} → BusyAt (s .n) (s .cell) → others (holders (s .cell)) i (s .n) ≡ false → s .cell i .mode ≡ m₀ → Puts i (s .cell i .sending) m₀ g m r →
-      Carries p r (cleared (clearedBy g) (Out g m))
+  puts-out : {m₀ m : Mode} {g : Signal} {r : Report} → BusyAt (s .concatenated) (s .n) (s .cell) → others (holders (s .cell)) i (s .n) ≡ false → s .cell i .mode ≡ m₀ → Puts i (s .cell i .sending) m₀ g m r →
+      Carries p r (remarked (markingBy m₀ g) (Out g m))
   puts-out a o e x = go e x
     where
       mine : {k : ℕ} → s .cell i .mode ≡ Sending k → s .cell i .sending ≡ p
@@ -346,8 +351,8 @@ module _ (p : Packet) (s : State) (v : Carry p s) (re : Reach s) (i : ℕ) (l : 
       for-me : {m : Mode} → mem (placeOf m) answerers ≡ true → s .cell i .mode ≡ m → p .to ≡ i
       for-me t e = answers-to (ap (λ m. mem (placeOf m) answerers) e ∙ t) (v .all i l)
 
-      go : {m₀ m : Mode} {g : Signal} {r : Report} → s .cell i .mode ≡ m₀ → Puts i (s .cell i .sending) m₀ g m r → Carries p r (cleared (clearedBy g) (Out g m))
-      go e start = opens (λ w. nothing refl) (λ z. mine e) (first-sent a e)
+      go : {m₀ m : Mode} {g : Signal} {r : Report} → s .cell i .mode ≡ m₀ → Puts i (s .cell i .sending) m₀ g m r → Carries p r (remarked (markingBy m₀ g) (Out g m))
+      go e start = opens (Sending 0) (λ w. nothing refl) (λ z. mine e) (first-sent a e)
       go e dhead = on tt refl (nothing refl) (λ z. mine e)
       go e dest = on (λ z. ap (λ q. q .to) (mine e)) refl (nothing refl) (λ z. mine e)
       go e header = on ((λ z. refl), ap (λ q. q .head) (mine e)) refl (nothing refl) (λ z. mine e)
@@ -355,9 +360,9 @@ module _ (p : Packet) (s : State) (v : Carry p s) (re : Reach s) (i : ℕ) (l : 
       go e (end-all k q) = on tt refl (nothing refl) (λ z. never z)
       go e (end-one k q) = on tt refl (nothing refl) (λ z. mine e)
       go e filler = on tt refl (answers refl (for-me refl e)) (λ z. never z)
-      go e (ack-start {a = c} {h = b}) = opens (λ w. answers refl (for-me refl e)) (λ z. never z) (first-acked a c b e o)
+      go e (ack-start {a = c} {h = b}) = opens (Acking 0 c b) (λ w. answers refl (for-me refl e)) (λ z. never z) (first-acked a c b e o)
       go e ack-body = on tt refl (answers refl (for-me refl e)) (λ z. never z)
-      go e (ack-hold k) = on tt refl (nothing refl) (λ z. never z)
+      go e (ack-hold k) = remarked-carries true (on tt refl (nothing refl) (λ z. never z))
       go e (ack-end k) = on tt refl (nothing refl) (λ z. never z)
       go e holds-on = on tt refl (nothing refl) (λ z. never z)
 
@@ -380,13 +385,13 @@ module _ (p : Packet) (s : State) (v : Carry p s) (re : Reach s) (i : ℕ) (l : 
   stays ph z = changes p s v ph i (s .cell i) z (v .all i l) (v .own i l)
 
   -- every way leads to a state of which it holds again
-  pub carries : {m : Move} {r : Report} {ph : Phase} {c : Cell} {x : Clears} → Effect s m i (does r ph c x) → Carries p r (cleared x (moved s ph i c))
+  pub carries : {m : Move} {r : Report} {ph : Phase} {c : Cell} {x : Marking} → Effect s m i (does r ph c x) → Carries p r (remarked x (moved s ph i c))
   carries (waits e f) = untold p (changes p s v _ i _ (v .signal) (v .all i l) (v .own i l)) refl
   carries (replies {p = q} e) = let y = holding-past e (s .phase) (re .stage) in untold q (begins p s v _ i _ (y .1 q) refl (y .0)) refl
-  carries (wins {p = q} z e f w) = untold q (begins p s v _ i _ tt refl (λ k h o. ap (λ c. mem c past) (subst (λ ph. Stage ph (s .n) (s .cell)) z (re .stage) k h))) refl
+  carries (wins {p = q} z e f w) = untold q (begins p s v _ i _ tt refl (λ k h o. ap (λ c. mem c past) (subst (λ ph. Stage (s .concatenated) ph (s .n) (s .cell)) z (re .stage) .resting k h))) refl
   carries loses = untold p (stays _ (v .signal)) refl
-  carries (gives e) = untold p (changes p s v _ i _ (v .signal) (answers refl (answers-to (ap (λ m. mem (placeOf m) answerers) e) (v .all i l))) (λ z. never z)) refl
-  carries (puts z h o x) = puts-out (subst (λ ph. Stage ph (s .n) (s .cell)) z (re .stage)) o refl x
+  carries (gives e u) = untold p (changes p s v _ i _ (v .signal) (answers refl (answers-to (ap (λ m. mem (placeOf m) answerers) e) (v .all i l))) (λ z. never z)) refl
+  carries (puts z h o x) = puts-out (subst (λ ph. Stage (s .concatenated) ph (s .n) (s .cell)) z (re .stage)) o refl x
   carries (frees z h e) = untold p (changes p s v _ i _ (pick (SaysAt p) (others (holders (s .cell)) i (s .n)) _ _ tt tt) (nothing refl) (λ z. never z)) refl
   carries (arrives {w = w} {g = g} {t = t} {b = b} z x) =
       let y : Says p false g = subst (SaysAt p) z (v .signal) in
@@ -395,5 +400,6 @@ module _ (p : Packet) (s : State) (v : Carry p s) (re : Reach s) (i : ℕ) (l : 
   carries (grants z e f) =
       untold p (changes p s v _ i _ (pick (SaysAt p) (others (pendings (s .cell)) i (s .n)) _ _ tt tt) (granted-bears (v .all i l)) (λ q. v .own i l (granted-sends (s .cell i .mode) q))) refl
   carries (grants-none z e) = untold p (stays Busy tt) refl
-  carries (gaps z) = hear p s v _ i Gap _ false l (pick (SaysAt p) (ltb (suc i) (s .n)) _ _ tt tt) tt refl (sym (or-no (s .cell i .misled))) refl
+  carries (gaps z u) = hear p s v _ i Gap _ false l tt tt refl (sym (or-no (s .cell i .misled))) refl
+  carries (settles z u) = remarked-carries false (hear p s v _ i Gap _ false l tt tt refl (sym (or-no (s .cell i .misled))) refl)
   carries (resets z) = let c = stays (s .phase) (v .signal) in untold p (record { all = c .all; signal = c .signal; own = c .own }) refl

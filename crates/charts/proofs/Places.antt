@@ -1,7 +1,7 @@
 -- Modes by their places, and the reception chart by places and classes: `key` says once that what a node comes to goes by the place of its mode and the class of the signal,
--- so that a rule of the chart is one test, computed over 23 × 14 pairs (`law`).
+-- so that a rule of the chart is one test, computed over 24 × 14 pairs (`law`).
 use mathlib.Core.Path.{_≡_, refl, sym, ap, subst, _∙_}
-use mathlib.Core.Bool.{Bool, true, false, cond, _||_, not, Bool·beq}
+use mathlib.Core.Bool.{Bool, true, false, cond, _&&_, _||_, not, Bool·beq}
 use mathlib.Core.List.{List, [], _∷_}
 use Prim.Native.Nat.{ℕ, _<_, _+_, _*_}
 use lib.Dec.{T, eqb, lit<}
@@ -11,7 +11,7 @@ use Rattle.charts.specs.declared.Head.{Head}
 use Rattle.charts.specs.declared.Seen.the-variants as Sn
 use Rattle.charts.specs.declared.Datum.the-variants as D
 use Rattle.charts.specs.declared.Mode.{Mode}
-use Rattle.charts.specs.declared.Mode.the-variants.{Rest, AwaitAck, AckBody, AckEnd, Opened, Addressed, HeadOwn, HeadAll, BodyOwn, BodyAll, TailOwn, TailAll, Wait, Owed, Sending, Told, Answering, Acking, Holding, Spurious}
+use Rattle.charts.specs.declared.Mode.the-variants.{Rest, AwaitAck, AckBody, AckEnd, Opened, Addressed, HeadOwn, HeadAll, BodyOwn, BodyAll, TailOwn, TailAll, Wait, Owed, Sending, Told, Answering, Acking, Holding, Spurious, Listening}
 use Rattle.charts.specs.declared.Signal.{Signal}
 use Rattle.charts.specs.declared.Signal.the-variants.{Start, End, Prefix, Gap, Dhead, Dest, Header, Data, Ack}
 use Rattle.charts.specs.declared.Heard.{Heard}
@@ -22,7 +22,7 @@ use Rattle.charts.specs.Signals.{classOf, isLine, closes}
 use Rattle.charts.specs.State.{every}
 use Rattle.charts.specs.Reception.{answer, hears}
 use Rattle.charts.proofs.Words.{wordOf}
-use Rattle.charts.proofs.Tools.{implies, pick, beq-eq, everyPair, table-at, pairs-at, mem}
+use Rattle.charts.proofs.Tools.{implies, not-implied, pick, by-test, beq-eq, everyPair, table-at, pairs-at, mem}
 
 -- the clauses from here to `place-lt` are printed by tools/places.py
 -- the step, acknowledgement, hold, header and datum that a mode remembers
@@ -50,6 +50,7 @@ stepIn Answering = 0
 stepIn (Acking k a b) = k
 stepIn Holding = 0
 stepIn Spurious = 0
+stepIn Listening = 0
 
 abbrev pub ackIn : Mode → ℕ
 ackIn Rest = 0
@@ -75,6 +76,7 @@ ackIn Answering = 0
 ackIn (Acking k a b) = a
 ackIn Holding = 0
 ackIn Spurious = 0
+ackIn Listening = 0
 
 abbrev pub holdIn : Mode → Bool
 holdIn Rest = false
@@ -100,6 +102,7 @@ holdIn Answering = false
 holdIn (Acking k a b) = b
 holdIn Holding = false
 holdIn Spurious = false
+holdIn Listening = false
 
 abbrev pub headIn : Mode → Head
 headIn Rest = record { header = 0 }
@@ -125,6 +128,7 @@ headIn Answering = record { header = 0 }
 headIn (Acking k a b) = record { header = 0 }
 headIn Holding = record { header = 0 }
 headIn Spurious = record { header = 0 }
+headIn Listening = record { header = 0 }
 
 abbrev pub datumIn : Mode → ℕ
 datumIn Rest = 0
@@ -150,11 +154,12 @@ datumIn Answering = 0
 datumIn (Acking k a b) = 0
 datumIn Holding = 0
 datumIn Spurious = 0
+datumIn Listening = 0
 
 -- the modes by their places
 abbrev pub modes : ℕ → ℕ → Bool → Head → ℕ → List Mode
 modes k a b h d =
-    Rest ∷ AwaitAck ∷ AckBody ∷ (AckEnd (Sn.Ack a)) ∷ (AckEnd Sn.Nothing) ∷ Opened ∷ Addressed ∷ HeadOwn ∷ HeadAll ∷ (BodyOwn h) ∷ (BodyAll h) ∷ (TailOwn h (D.Good d)) ∷ (TailOwn h D.Bad) ∷ (TailAll h (D.Good d)) ∷ (TailAll h D.Bad) ∷ Wait ∷ Owed ∷ (Sending k) ∷ Told ∷ Answering ∷ (Acking k a b) ∷ Holding ∷ Spurious ∷ []
+    Rest ∷ AwaitAck ∷ AckBody ∷ (AckEnd (Sn.Ack a)) ∷ (AckEnd Sn.Nothing) ∷ Opened ∷ Addressed ∷ HeadOwn ∷ HeadAll ∷ (BodyOwn h) ∷ (BodyAll h) ∷ (TailOwn h (D.Good d)) ∷ (TailOwn h D.Bad) ∷ (TailAll h (D.Good d)) ∷ (TailAll h D.Bad) ∷ Wait ∷ Owed ∷ (Sending k) ∷ Told ∷ Answering ∷ (Acking k a b) ∷ Holding ∷ Spurious ∷ Listening ∷ []
 
 pub mode-at : (m : Mode) → m ≡ getD (modes (stepIn m) (ackIn m) (holdIn m) (headIn m) (datumIn m)) (placeOf m) Spurious
 mode-at Rest = refl
@@ -180,8 +185,9 @@ mode-at Answering = refl
 mode-at (Acking k a b) = refl
 mode-at Holding = refl
 mode-at Spurious = refl
+mode-at Listening = refl
 
-pub place-lt : (m : Mode) → placeOf m < 23
+pub place-lt : (m : Mode) → placeOf m < 24
 place-lt Rest = lit< tt
 place-lt AwaitAck = lit< tt
 place-lt AckBody = lit< tt
@@ -205,6 +211,7 @@ place-lt Answering = lit< tt
 place-lt (Acking k a b) = lit< tt
 place-lt Holding = lit< tt
 place-lt Spurious = lit< tt
+place-lt Listening = lit< tt
 
 -- a mode at a place is the one that stands there, with what it remembers
 pub mode-is : (m : Mode) (p : ℕ) → placeOf m ≡ p → m ≡ getD (modes (stepIn m) (ackIn m) (holdIn m) (headIn m) (datumIn m)) p Spurious
@@ -223,9 +230,23 @@ stepAt p k = cond (eqb p P.sending) (sendingAt k) (cond (eqb p P.acking) (acking
 abbrev pub stepOf : Mode → ℕ
 stepOf m = stepAt (placeOf m) (stepIn m)
 
--- a test that passes at the 23 places holds of every mode
-pub law-mode : (f : ℕ → Bool) → T (every f 23) → (m : Mode) → f (placeOf m) ≡ true
-law-mode f t m = table-at f 23 t (placeOf m) (place-lt m)
+-- a test that passes at the 24 places holds of every mode
+pub law-mode : (f : ℕ → Bool) → T (every f 24) → (m : Mode) → f (placeOf m) ≡ true
+law-mode f t m = table-at f 24 t (placeOf m) (place-lt m)
+
+-- only Acking remembers a hold
+pub hold-in : (m : Mode) → holdIn m ≡ eqb (placeOf m) P.acking && holdIn m
+hold-in m = ap holdIn (mode-at m) ∙ go (holdIn m)
+  where
+    at : Bool → ℕ → Mode
+    at b p = getD (modes (stepIn m) (ackIn m) b (headIn m) (datumIn m)) p Spurious
+
+    go : (b : Bool) → holdIn (at b (placeOf m)) ≡ eqb (placeOf m) P.acking && b
+    go true = beq-eq _ _ (table-at (λ p. Bool·beq (holdIn (at true p)) (eqb p P.acking && true)) 24 tt (placeOf m) (place-lt m))
+    go false = beq-eq _ _ (table-at (λ p. Bool·beq (holdIn (at false p)) (eqb p P.acking && false)) 24 tt (placeOf m) (place-lt m))
+
+pub no-hold : (m : Mode) → eqb (placeOf m) P.acking ≡ false → holdIn m ≡ false
+no-hold m e = hold-in m ∙ ap (λ b. b && holdIn m) e
 
 -- what matters of what a node heard: the place of its mode, whether it pends, and the word it reports
 pub record Next : Type 0 where
@@ -248,7 +269,7 @@ key : (me : ℕ) (m : Mode) (c : ℕ) (s : Signal) → nextOf (answer me m c s) 
 key me Rest c s = refl
 key me AwaitAck c s = arms (eqb c S.prefix) _ _ _ _ refl (arms (eqb c S.start) _ _ _ _ refl (arms (eqb c S.gap) _ _ _ _ refl refl))
 key me AckBody c s = arms (eqb c S.gap) _ _ _ _ refl (arms (isLine c) _ _ _ _ refl (arms (eqb c S.ackGood) _ _ _ _ refl refl))
-key me (AckEnd (Sn.Ack a)) c s = arms (closes c) _ _ _ _ refl (arms (eqb c S.gap) _ _ _ _ refl refl)
+key me (AckEnd (Sn.Ack a)) c s = arms (eqb c S.end) _ _ _ _ refl (arms (eqb c S.prefix) _ _ _ _ refl (arms (eqb c S.gap) _ _ _ _ refl refl))
 key me (AckEnd Sn.Nothing) c s = arms (eqb c S.gap) _ _ _ _ refl refl
 key me Opened c s = refl
 key me Addressed c s = refl
@@ -268,6 +289,7 @@ key me Answering c s = refl
 key me (Acking k a b) c s = refl
 key me Holding c s = refl
 key me Spurious c s = refl
+key me Listening c s = refl
 
 pub class-lt : (me : ℕ) (s : Signal) → classOf me s < 14
 class-lt me Start = lit< tt
@@ -281,11 +303,11 @@ class-lt me (Data d good) = pick (λ c. c < 14) good _ _ (lit< tt) (lit< tt)
 class-lt me (Ack a good) = pick (λ c. c < 14) good _ _ (lit< tt) (lit< tt)
 
 -- a test of what a node comes to, of the place of its mode and of the signal's class, that passes at all pairs, holds of every node and signal
-pub law : (f : Next → ℕ → ℕ → Bool) → T (everyPair (λ p c. f (next p c) p c) 23 14) → (me : ℕ) (m : Mode) (s : Signal) → f (nextOf (hears me m s)) (placeOf m) (classOf me s) ≡ true
+pub law : (f : Next → ℕ → ℕ → Bool) → T (everyPair (λ p c. f (next p c) p c) 24 14) → (me : ℕ) (m : Mode) (s : Signal) → f (nextOf (hears me m s)) (placeOf m) (classOf me s) ≡ true
 unfolding hears
 law f t me m s =
     subst (λ y. f y (placeOf m) (classOf me s) ≡ true) (sym (key me m (classOf me s) s))
-    (pairs-at (λ p c. f (next p c) p c) 23 14 t (placeOf m) (classOf me s) (place-lt m) (class-lt me s))
+    (pairs-at (λ p c. f (next p c) p c) 24 14 t (placeOf m) (classOf me s) (place-lt m) (class-lt me s))
 
 -- a node in such a mode is pending; is a holder; has a packet of its own half read
 abbrev pub owing : ℕ → Bool
@@ -303,6 +325,14 @@ owes me m s = beq-eq _ _ (law (λ y p c. Bool·beq (owing (y .place)) (owing p |
 
 pub acts : (me : ℕ) (m : Mode) (s : Signal) → active (placeOf (hears me m s .mode)) ≡ active (placeOf m)
 acts me m s = beq-eq _ _ (law (λ y p c. Bool·beq (active (y .place)) (active p)) tt me m s)
+
+-- who will not hold the bus does not come to by hearing
+pub hears-no-hold : (me : ℕ) (m : Mode) (s : Signal) → holdIn m ≡ false → holdIn (hears me m s .mode) ≡ false
+unfolding hears
+hears-no-hold me m s =
+    by-test (eqb (placeOf m) P.acking)
+    (λ q. subst (λ (m : Mode). holdIn m ≡ false → holdIn (hears me m s .mode) ≡ false) (sym (mode-is m P.acking (eqb-true _ _ q))) (λ e. e))
+    (λ q e. no-hold (hears me m s .mode) (not-implied _ _ (law (λ y p c. implies (eqb (y .place) P.acking) (eqb p P.acking)) tt me m s) q))
 
 -- after an End no packet is half read
 pub ended : (me : ℕ) (m : Mode) → half (placeOf (hears me m End .mode)) ≡ false

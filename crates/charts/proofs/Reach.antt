@@ -1,4 +1,5 @@
--- What holds of every state that a run reaches: each node's marks say what its mode is, and the bus is at one of the stages. Then what follows of who holds the bus.
+-- What holds of every state that a run reaches: each node's marks say what its mode is, the bus is at one of the stages, and while it is marked nobody will hold it again.
+-- Then what follows of who holds the bus.
 use mathlib.Core.Path.{_≡_, refl, sym, ap, subst, _∙_}
 use mathlib.Core.Logic.{_≢_}
 use mathlib.Core.Bool.{Bool, true, false, _&&_, _||_, not}
@@ -14,7 +15,7 @@ use Rattle.charts.specs.Modes as P
 use Rattle.charts.specs.Modes.{placeOf}
 use Rattle.charts.specs.State.{State, holders, others, every, fresh}
 use Rattle.charts.proofs.Tools.{never, clash, implies, implied, and-true, pick-by, table-at, others-off, mem, everyIn, mem-sub}
-use Rattle.charts.proofs.Places.{law-mode, owing, active, stepIn, stepAt, stepOf}
+use Rattle.charts.proofs.Places.{law-mode, owing, active, stepIn, stepAt, stepOf, holdIn}
 use Rattle.charts.proofs.Stages.{Row, rowAt, Turn, turnAt, quiet, clearSteps, Delivery, Talk, Stage}
 
 -- a node is pending where its mode owes, and a holder where its mode acts
@@ -24,10 +25,11 @@ Marks c = (c .pending ≡ owing (placeOf (c .mode))) × (c .holder ≡ active (p
 pub record Reach (s : State) : Type 0 where
   pub two : 2 ≤ s .n
   pub marks : (k : ℕ) → Marks (s .cell k)
-  pub stage : Stage (s .phase) (s .n) (s .cell)
+  pub stage : Stage (s .concatenated) (s .phase) (s .n) (s .cell)
+  pub last : s .concatenated ≡ true → (k : ℕ) → k < s .n → holdIn (s .cell k .mode) ≡ false
 
 pub start : (n : ℕ) → 2 ≤ n → Reach (fresh n)
-start n h = record { two = h; marks = λ k. (refl, refl); stage = λ k l. refl }
+start n h = record { two = h; marks = λ k. (refl, refl); stage = record { unmarked = refl; resting = λ k l. refl }; last = λ e. never e }
 
 -- the places of a node that was told of a packet and answers
 abbrev pub answerers : List ℕ
@@ -69,7 +71,7 @@ step-place m a =
 abbrev pub passive : List ℕ
 passive =
     P.rest ∷ P.awaitAck ∷ P.ackBody ∷ P.ackGood ∷ P.ackNone ∷ P.opened ∷ P.addressed ∷ P.headOwn ∷ P.headAll ∷ P.bodyOwn ∷ P.bodyAll
-    ∷ P.tailOwnGood ∷ P.tailOwnBad ∷ P.tailAllGood ∷ P.tailAllBad ∷ P.wait ∷ P.owed ∷ P.told ∷ []
+    ∷ P.tailOwnGood ∷ P.tailOwnBad ∷ P.tailAllGood ∷ P.tailAllBad ∷ P.wait ∷ P.owed ∷ P.told ∷ P.listening ∷ []
 
 pub is-passive : (l : List ℕ) → everyIn l passive ≡ true → (m : Mode) → mem (placeOf m) l ≡ true → active (placeOf m) ≡ false
 is-passive l t m h = not-true _ (implied _ _ (law-mode (λ p. implies (mem p passive) (not (active p))) tt m) (mem-sub l passive t (placeOf m) h))
@@ -79,18 +81,18 @@ pub passive-steps : (k l : List ℕ) → everyIn k l ≡ true → everyIn k pass
 passive-steps k l t u m h = subst (λ c. mem c l ≡ true) (sym (step-place m (is-passive k u m h))) (mem-sub k l t (placeOf m) h)
 
 -- a node in an acting mode is the one whose turn it is, or the sender
-pub is-talker : (n : ℕ) (f : ℕ → Cell) (a : Talk n f) (k : ℕ) → k < n → active (placeOf (f k .mode)) ≡ true → k ≡ a .w
-is-talker n f a k l z = go (eqb k (a .w)) refl
+pub is-talker : (b : Bool) (n : ℕ) (f : ℕ → Cell) (a : Talk b n f) (k : ℕ) → k < n → active (placeOf (f k .mode)) ≡ true → k ≡ a .w
+is-talker b n f a k l z = go (eqb k (a .w)) refl
   where
     go : (b : Bool) → eqb k (a .w) ≡ b → k ≡ a .w
     go true e = eqb-true k (a .w) e
-    go false e = clash _ z (is-passive (turnAt (a .t) .room) (table-at (λ t. everyIn (turnAt t .room) passive) 15 tt (a .t) (a .t-lt)) (f k .mode) (a .room k l (eqb-false k (a .w) e)))
+    go false e = clash _ z (is-passive (turnAt (a .t) .room) (table-at (λ t. everyIn (turnAt t .room) passive) 17 tt (a .t) (a .t-lt)) (f k .mode) (a .room k l (eqb-false k (a .w) e)))
 
-pub is-sender : (n : ℕ) (f : ℕ → Cell) (w : ℕ) (g : Signal) (j : ℕ) (a : Delivery n f w g j) (k : ℕ) → k < n → active (placeOf (f k .mode)) ≡ true → k ≡ w
-is-sender n f w g j a k l z = go (eqb k w) (ltb k j) refl refl
+pub is-sender : (b : Bool) (n : ℕ) (f : ℕ → Cell) (w : ℕ) (g : Signal) (j : ℕ) (a : Delivery b n f w g j) (k : ℕ) → k < n → active (placeOf (f k .mode)) ≡ true → k ≡ w
+is-sender b n f w g j a k l z = go (eqb k w) (ltb k j) refl refl
   where
-    off : (h : Row → List ℕ) → T (every (λ d. everyIn (h (rowAt d)) passive) 18) → mem (placeOf (f k .mode)) (h (rowAt (a .d))) ≡ true → active (placeOf (f k .mode)) ≡ false
-    off h t x = is-passive (h (rowAt (a .d))) (table-at (λ d. everyIn (h (rowAt d)) passive) 18 t (a .d) (a .d-lt)) (f k .mode) x
+    off : (h : Row → List ℕ) → T (every (λ d. everyIn (h (rowAt d)) passive) 22) → mem (placeOf (f k .mode)) (h (rowAt (a .d))) ≡ true → active (placeOf (f k .mode)) ≡ false
+    off h t x = is-passive (h (rowAt (a .d))) (table-at (λ d. everyIn (h (rowAt d)) passive) 22 t (a .d) (a .d-lt)) (f k .mode) x
 
     go : (b c : Bool) → eqb k w ≡ b → ltb k j ≡ c → k ≡ w
     go true c e q = eqb-true k w e
@@ -98,17 +100,17 @@ is-sender n f w g j a k l z = go (eqb k w) (ltb k j) refl refl
     go false false e q = clash _ z (off (λ r. r .before) tt (a .before k l (eqb-false k w e) (ltb-false k j q)))
 
 -- a fact of the row in which a node of step c sends, and of the turn of a node of step c
-pub row-fact : (n : ℕ) (f : ℕ → Cell) (w : ℕ) (g : Signal) (j : ℕ) (a : Delivery n f w g j) (c : ℕ) → stepOf (f w .mode) ≡ c → (h : Row → Bool) → T (every (λ d. implies (mem c (rowAt d .sender)) (h (rowAt d))) 18) → h (rowAt (a .d)) ≡ true
-row-fact n f w g j a c e h t =
-    implied _ _ (table-at (λ d. implies (mem c (rowAt d .sender)) (h (rowAt d))) 18 t (a .d) (a .d-lt)) (ap (λ c. mem c (rowAt (a .d) .sender)) (sym e) ∙ a .sender)
+pub row-fact : (b : Bool) (n : ℕ) (f : ℕ → Cell) (w : ℕ) (g : Signal) (j : ℕ) (a : Delivery b n f w g j) (c : ℕ) → stepOf (f w .mode) ≡ c → (h : Row → Bool) → T (every (λ d. implies (mem c (rowAt d .sender)) (h (rowAt d))) 22) → h (rowAt (a .d)) ≡ true
+row-fact b n f w g j a c e h t =
+    implied _ _ (table-at (λ d. implies (mem c (rowAt d .sender)) (h (rowAt d))) 22 t (a .d) (a .d-lt)) (ap (λ c. mem c (rowAt (a .d) .sender)) (sym e) ∙ a .sender)
 
-pub turn-fact : (n : ℕ) (f : ℕ → Cell) (a : Talk n f) (c : ℕ) → stepOf (f (a .w) .mode) ≡ c → (h : Turn → Bool) → T (every (λ t. implies (eqb (turnAt t .step) c) (h (turnAt t))) 15) → h (turnAt (a .t)) ≡ true
-turn-fact n f a c e h t =
-    implied _ _ (table-at (λ t. implies (eqb (turnAt t .step) c) (h (turnAt t))) 15 t (a .t) (a .t-lt)) (eq-eqb _ _ (sym (a .talker) ∙ e))
+pub turn-fact : (b : Bool) (n : ℕ) (f : ℕ → Cell) (a : Talk b n f) (c : ℕ) → stepOf (f (a .w) .mode) ≡ c → (h : Turn → Bool) → T (every (λ t. implies (eqb (turnAt t .step) c) (h (turnAt t))) 17) → h (turnAt (a .t)) ≡ true
+turn-fact b n f a c e h t =
+    implied _ _ (table-at (λ t. implies (eqb (turnAt t .step) c) (h (turnAt t))) 17 t (a .t) (a .t-lt)) (eq-eqb _ _ (sym (a .talker) ∙ e))
 
 -- no node of step c has a turn
-pub no-turn : (n : ℕ) (f : ℕ → Cell) (a : Talk n f) (c : ℕ) → T (every (λ t. not (eqb (turnAt t .step) c)) 15) → stepOf (f (a .w) .mode) ≡ c → ⊥
-no-turn n f a c t e = clash _ (eq-eqb _ _ (sym (a .talker) ∙ e)) (not-true _ (table-at (λ t. not (eqb (turnAt t .step) c)) 15 t (a .t) (a .t-lt)))
+pub no-turn : (b : Bool) (n : ℕ) (f : ℕ → Cell) (a : Talk b n f) (c : ℕ) → T (every (λ t. not (eqb (turnAt t .step) c)) 17) → stepOf (f (a .w) .mode) ≡ c → ⊥
+no-turn b n f a c t e = clash _ (eq-eqb _ _ (sym (a .talker) ∙ e)) (not-true _ (table-at (λ t. not (eqb (turnAt t .step) c)) 17 t (a .t) (a .t-lt)))
 
 -- while the bus clears, a node of step c that is not in the list cannot be
 pub not-clearing : (n : ℕ) (f : ℕ → Cell) → ((k : ℕ) → k < n → mem (stepOf (f k .mode)) clearSteps ≡ true) → (i : ℕ) → i < n → mem (stepOf (f i .mode)) clearSteps ≡ false → ⊥

@@ -1,8 +1,8 @@
 -- The stages of a transaction as tables: at each stage the places in which the sender and the other nodes may be, and how many forward actions are left at most.
--- Round 0 is the packet of the node that won, with its acknowledgement; round 1 is what a node sends that kept the bus (hold 1). (Request 1's mark of the bus says which round it is.)
+-- Round 0 is the packet of the node that won, with its acknowledgement; round 1 is what a node sends that kept the bus (hold 1), with its acknowledgement. The mark of the bus says which round it is.
 use mathlib.Core.Path.{_≡_, refl, sym, subst}
 use mathlib.Core.Logic.{_≢_}
-use mathlib.Core.Bool.{Bool, true, cond, _&&_}
+use mathlib.Core.Bool.{Bool, true, false, cond, _&&_}
 use mathlib.Core.List.{List, [], _∷_}
 use Prim.Native.Nat.{ℕ, zero, suc, _<_, _≤_, _+_, _-_, _*_}
 use lib.Dec.{T, eqb, ltb, leb}
@@ -19,25 +19,28 @@ use Rattle.charts.specs.Signals as S
 use Rattle.charts.specs.Signals.{classOf, kindOf}
 use Rattle.charts.specs.Reception.{hears}
 use Rattle.charts.specs.State.{pendings, some, every}
-use Rattle.charts.proofs.Tools.{implies, implied, both, pick, table-at, everyPair, mem, everyIn}
+use Rattle.charts.proofs.Tools.{implies, implied, not-implied, and-true, both, pick, table-at, everyPair, mem, everyIn, mem-sub}
 use Rattle.charts.proofs.Places.{Next, next, law, active, sendingAt, ackingAt, stepOf}
 
 -- A signal under way: its kind, its round, the steps of its sender, the places of the other nodes before and after they heard it.
--- What is left after it: `turns` times n and `more`. `next` is the turn that follows it (where the sender has asked from Holding, the turn after that; 15: none)
+-- At most one of the others stands in a place of `sole`: the requester, and in the packet of round 1 the node that reads it, who was the requester of round 0.
+-- What is left after it: `turns` times n and `more`. `next` is the turn that follows it (where the sender has asked from Holding, the turn after that; 17: none)
 pub record Row : Type 0 where
   pub kind : ℕ
   pub round : ℕ
   pub sender : List ℕ
   pub before : List ℕ
   pub after : List ℕ
+  pub sole : List ℕ
   pub turns : ℕ
   pub more : ℕ
   pub next : ℕ
 
-abbrev row : ℕ → ℕ → List ℕ → List ℕ → List ℕ → ℕ → ℕ → ℕ → Row
-row k r s b a t m x = record { kind = k; round = r; sender = s; before = b; after = a; turns = t; more = m; next = x }
+abbrev row : ℕ → ℕ → List ℕ → List ℕ → List ℕ → List ℕ → ℕ → ℕ → ℕ → Row
+row k r s b a l t m x = record { kind = k; round = r; sender = s; before = b; after = a; sole = l; turns = t; more = m; next = x }
 
--- the other nodes: after each signal of a packet; at rest, done with it or awaiting the acknowledgement; after its Start and its Ack; waiting
+-- the other nodes: after each signal of a packet; at rest, done with it or awaiting the acknowledgement; after its Start and its Ack; waiting, or listening for a concatenated packet;
+-- after this one's Start and Dhead
 abbrev addressedTo : List ℕ
 addressedTo = P.headOwn ∷ P.headAll ∷ P.wait ∷ []
 
@@ -62,71 +65,108 @@ ackRead = P.ackBody ∷ P.ackGood ∷ P.ackNone ∷ P.opened ∷ P.addressed ∷
 abbrev pub waiting : List ℕ
 waiting = P.wait ∷ []
 
+abbrev listeners : List ℕ
+listeners = P.wait ∷ P.listening ∷ []
+
+abbrev replyOpened : List ℕ
+replyOpened = P.opened ∷ P.wait ∷ []
+
+abbrev replyHeaded : List ℕ
+replyHeaded = P.addressed ∷ P.wait ∷ []
+
 abbrev pub ended : List ℕ
 ended = P.rest ∷ P.awaitAck ∷ []
+
+-- a requester that has put out its packet, up to the end of the acknowledgement; a node that reads a concatenated packet, up to its end
+abbrev pub requesting : List ℕ
+requesting = P.awaitAck ∷ P.ackBody ∷ P.ackGood ∷ P.ackNone ∷ P.listening ∷ []
+
+abbrev pub reading : List ℕ
+reading =
+    P.listening ∷ P.opened ∷ P.addressed ∷ P.headOwn ∷ P.headAll ∷ P.bodyOwn ∷ P.bodyAll ∷ P.tailOwnGood ∷ P.tailOwnBad ∷ P.tailAllGood ∷ P.tailAllBad
+    ∷ P.owed ∷ P.told ∷ []
+
+-- the steps of a node that answers
+abbrev pub answering : List ℕ
+answering = P.answering ∷ ackingAt 0 ∷ []
 
 abbrev pub rows : List Row
 rows =
     -- 0 to 5: the packet of the node that won
-    row 0 0 (sendingAt 1 ∷ []) (P.rest ∷ []) (P.opened ∷ []) 17 0 1
-    ∷ row 4 0 (sendingAt 2 ∷ []) (P.opened ∷ []) (P.addressed ∷ []) 16 0 2
-    ∷ row 5 0 (sendingAt 3 ∷ []) (P.addressed ∷ []) addressedTo 15 0 3
-    ∷ row 6 0 (sendingAt 4 ∷ []) addressedTo headRead 14 0 4
-    ∷ row 7 0 (sendingAt 5 ∷ []) headRead dataRead 13 0 5
-    ∷ row 1 0 ended dataRead packetRead 12 0 15
-    -- 6: a filler of Answering; 7 to 10: Start, Ack, and End or Prefix of the acknowledgement
-    ∷ row 2 0 (P.answering ∷ ackingAt 0 ∷ []) quiet quiet 10 1 15
-    ∷ row 0 0 (ackingAt 1 ∷ []) quiet ackOpened 9 1 6
-    ∷ row 8 0 (ackingAt 2 ∷ []) ackOpened ackRead 8 1 7
-    ∷ row 1 0 (P.rest ∷ []) ackRead waiting 1 0 15
-    ∷ row 2 1 (P.holding ∷ sendingAt 0 ∷ []) ackRead waiting 7 0 8
+    row 0 0 (sendingAt 1 ∷ []) (P.rest ∷ []) (P.opened ∷ []) requesting 20 1 1
+    ∷ row 4 0 (sendingAt 2 ∷ []) (P.opened ∷ []) (P.addressed ∷ []) requesting 19 1 2
+    ∷ row 5 0 (sendingAt 3 ∷ []) (P.addressed ∷ []) addressedTo requesting 18 1 3
+    ∷ row 6 0 (sendingAt 4 ∷ []) addressedTo headRead requesting 17 1 4
+    ∷ row 7 0 (sendingAt 5 ∷ []) headRead dataRead requesting 16 1 5
+    ∷ row 1 0 ended dataRead packetRead requesting 15 1 17
+    -- 6: a filler of Answering; 7 to 10: Start, Ack, and End or Prefix of the acknowledgement. (That Prefix marks the bus)
+    ∷ row 2 0 answering quiet quiet requesting 13 3 17
+    ∷ row 0 0 (ackingAt 1 ∷ []) quiet ackOpened requesting 12 3 6
+    ∷ row 8 0 (ackingAt 2 ∷ []) ackOpened ackRead requesting 11 3 7
+    ∷ row 1 0 (P.rest ∷ []) ackRead waiting requesting 1 0 17
+    ∷ row 2 1 (P.holding ∷ sendingAt 0 ∷ []) ackRead listeners requesting 10 2 8
     -- 11: a filler of Holding; 12 to 17: the packet that it sends
-    ∷ row 2 1 (P.holding ∷ sendingAt 0 ∷ []) waiting waiting 7 0 8
-    ∷ row 0 1 (sendingAt 1 ∷ []) waiting waiting 6 0 10
-    ∷ row 4 1 (sendingAt 2 ∷ []) waiting waiting 5 0 11
-    ∷ row 5 1 (sendingAt 3 ∷ []) waiting waiting 4 0 12
-    ∷ row 6 1 (sendingAt 4 ∷ []) waiting waiting 3 0 13
-    ∷ row 7 1 (sendingAt 5 ∷ []) waiting waiting 2 0 14
-    ∷ row 1 1 ended waiting waiting 1 0 15
+    ∷ row 2 1 (P.holding ∷ sendingAt 0 ∷ []) listeners listeners requesting 10 2 8
+    ∷ row 0 1 (sendingAt 1 ∷ []) listeners replyOpened reading 9 2 10
+    ∷ row 4 1 (sendingAt 2 ∷ []) replyOpened replyHeaded reading 8 2 11
+    ∷ row 5 1 (sendingAt 3 ∷ []) replyHeaded addressedTo reading 7 2 12
+    ∷ row 6 1 (sendingAt 4 ∷ []) addressedTo headRead reading 6 2 13
+    ∷ row 7 1 (sendingAt 5 ∷ []) headRead dataRead reading 5 2 14
+    ∷ row 1 1 ended dataRead packetRead reading 4 2 17
+    -- 18: a filler of Answering; 19 to 21: Start, Ack and End of its acknowledgement
+    ∷ row 2 1 answering quiet quiet requesting 4 0 17
+    ∷ row 0 1 (ackingAt 1 ∷ []) quiet ackOpened requesting 3 0 15
+    ∷ row 8 1 (ackingAt 2 ∷ []) ackOpened ackRead requesting 2 0 16
+    ∷ row 1 1 (P.rest ∷ []) ackRead waiting requesting 1 0 17
     ∷ []
 
 abbrev pub rowAt : ℕ → Row
-rowAt d = getD rows d (row 0 0 [] [] [] 0 0 0)
+rowAt d = getD rows d (row 0 0 [] [] [] [] 0 0 0)
 
--- A Busy bus on which one node is about to put out its next signal: that node's step, the round, the places of the other nodes, and what is left.
+-- the round of a bus that is marked or not, and a round's row of Answering's fillers
+abbrev pub roundOf : Bool → ℕ
+roundOf b = cond b 1 0
+
+abbrev pub fillerOf : ℕ → ℕ
+fillerOf r = cond (eqb r 0) 6 18
+
+-- A Busy bus on which one node is about to put out its next signal: that node's step, the round, the places of the other nodes, those with at most one of them, and what is left.
 -- `next` is the row of the signal that it puts out (Acking's last: an End; with hold 1 it is the row after)
 pub record Turn : Type 0 where
   pub step : ℕ
   pub round : ℕ
   pub room : List ℕ
+  pub sole : List ℕ
   pub turns : ℕ
   pub more : ℕ
   pub next : ℕ
 
-abbrev turn : ℕ → ℕ → List ℕ → ℕ → ℕ → ℕ → Turn
-turn s r k t m d = record { step = s; round = r; room = k; turns = t; more = m; next = d }
+abbrev turn : ℕ → ℕ → List ℕ → List ℕ → ℕ → ℕ → ℕ → Turn
+turn s r k l t m d = record { step = s; round = r; room = k; sole = l; turns = t; more = m; next = d }
 
 abbrev pub turns : List Turn
 turns =
-    turn (sendingAt 0) 0 (P.rest ∷ []) 18 0 0
-    ∷ turn (sendingAt 1) 0 (P.opened ∷ []) 17 0 1
-    ∷ turn (sendingAt 2) 0 (P.addressed ∷ []) 16 0 2
-    ∷ turn (sendingAt 3) 0 addressedTo 15 0 3
-    ∷ turn (sendingAt 4) 0 headRead 14 0 4
-    ∷ turn (sendingAt 5) 0 dataRead 13 0 5
-    ∷ turn (ackingAt 1) 0 ackOpened 9 1 8
-    ∷ turn (ackingAt 2) 0 ackRead 8 1 9
-    ∷ turn P.holding 1 waiting 7 1 11
-    ∷ turn (sendingAt 0) 1 waiting 7 0 12
-    ∷ turn (sendingAt 1) 1 waiting 6 0 13
-    ∷ turn (sendingAt 2) 1 waiting 5 0 14
-    ∷ turn (sendingAt 3) 1 waiting 4 0 15
-    ∷ turn (sendingAt 4) 1 waiting 3 0 16
-    ∷ turn (sendingAt 5) 1 waiting 2 0 17
+    turn (sendingAt 0) 0 (P.rest ∷ []) requesting 21 1 0
+    ∷ turn (sendingAt 1) 0 (P.opened ∷ []) requesting 20 1 1
+    ∷ turn (sendingAt 2) 0 (P.addressed ∷ []) requesting 19 1 2
+    ∷ turn (sendingAt 3) 0 addressedTo requesting 18 1 3
+    ∷ turn (sendingAt 4) 0 headRead requesting 17 1 4
+    ∷ turn (sendingAt 5) 0 dataRead requesting 16 1 5
+    ∷ turn (ackingAt 1) 0 ackOpened requesting 12 3 8
+    ∷ turn (ackingAt 2) 0 ackRead requesting 11 3 9
+    ∷ turn P.holding 1 listeners requesting 10 3 11
+    ∷ turn (sendingAt 0) 1 listeners requesting 10 2 12
+    ∷ turn (sendingAt 1) 1 replyOpened reading 9 2 13
+    ∷ turn (sendingAt 2) 1 replyHeaded reading 8 2 14
+    ∷ turn (sendingAt 3) 1 addressedTo reading 7 2 15
+    ∷ turn (sendingAt 4) 1 headRead reading 6 2 16
+    ∷ turn (sendingAt 5) 1 dataRead reading 5 2 17
+    ∷ turn (ackingAt 1) 1 ackOpened requesting 3 0 20
+    ∷ turn (ackingAt 2) 1 ackRead requesting 2 0 21
     ∷ []
 
 abbrev pub turnAt : ℕ → Turn
-turnAt t = getD turns t (turn 0 0 [] 0 0 0)
+turnAt t = getD turns t (turn 0 0 [] [] 0 0 0)
 
 -- the steps of all nodes while the bus grants, and after that while spurious holders end and the addressed node answers
 abbrev pub grantSteps : List ℕ
@@ -138,10 +178,15 @@ clearSteps = P.rest ∷ P.awaitAck ∷ P.wait ∷ P.answering ∷ P.spurious ∷
 abbrev pub acting : (ℕ → Cell) → ℕ → Bool
 acting f k = active (placeOf (f k .mode))
 
--- the stage of a bus: row d is under way from w, and j is the next to hear it
-pub record Delivery (n : ℕ) (f : ℕ → Cell) (w : ℕ) (g : Signal) (j : ℕ) : Type 0 where
+-- nobody but node `who` is in a place of l
+abbrev pub Sole : ℕ → (ℕ → Cell) → List ℕ → ℕ → Type 0
+Sole n f l who = (k : ℕ) → k < n → k ≢ who → mem (placeOf (f k .mode)) l ≡ false
+
+-- the stage of a bus, marked or not (b): row d is under way from w, and j is the next to hear it
+pub record Delivery (b : Bool) (n : ℕ) (f : ℕ → Cell) (w : ℕ) (g : Signal) (j : ℕ) : Type 0 where
   pub d : ℕ
-  pub d-lt : d < 18
+  pub d-lt : d < 22
+  pub round : rowAt d .round ≡ roundOf b
   pub kind : kindOf g ≡ rowAt d .kind
   pub here : w < n
   pub next-lt : j < n
@@ -149,35 +194,53 @@ pub record Delivery (n : ℕ) (f : ℕ → Cell) (w : ℕ) (g : Signal) (j : ℕ
   pub sender : mem (stepOf (f w .mode)) (rowAt d .sender) ≡ true
   pub before : (k : ℕ) → k < n → k ≢ w → j ≤ k → mem (placeOf (f k .mode)) (rowAt d .before) ≡ true
   pub after : (k : ℕ) → k < n → k ≢ w → k < j → mem (placeOf (f k .mode)) (rowAt d .after) ≡ true
+  pub who : ℕ
+  pub sole : (k : ℕ) → k < n → k ≢ w → k ≢ who → mem (placeOf (f k .mode)) (rowAt d .sole) ≡ false
 
 -- it is node w's turn t
-pub record Talk (n : ℕ) (f : ℕ → Cell) : Type 0 where
+pub record Talk (b : Bool) (n : ℕ) (f : ℕ → Cell) : Type 0 where
   pub t : ℕ
-  pub t-lt : t < 15
+  pub t-lt : t < 17
+  pub round : turnAt t .round ≡ roundOf b
   pub w : ℕ
   pub here : w < n
   pub talker : stepOf (f w .mode) ≡ turnAt t .step
   pub room : (k : ℕ) → k < n → k ≢ w → mem (placeOf (f k .mode)) (turnAt t .room) ≡ true
+  pub who : ℕ
+  pub sole : (k : ℕ) → k < n → k ≢ w → k ≢ who → mem (placeOf (f k .mode)) (turnAt t .sole) ≡ false
 
-pub data BusyAt (n : ℕ) (f : ℕ → Cell) : Type 0 where
-  talks : Talk n f → BusyAt n f
-  clears : ((k : ℕ) → k < n → mem (stepOf (f k .mode)) clearSteps ≡ true) → some (acting f) n ≡ true → BusyAt n f
-
+-- the bus grants; it clears
 pub record GrantingAt (n : ℕ) (f : ℕ → Cell) : Type 0 where
   pub steps : (k : ℕ) → k < n → mem (stepOf (f k .mode)) grantSteps ≡ true
   pub pends : some (pendings f) n ≡ true
+  pub who : ℕ
+  pub sole : Sole n f requesting who
+
+pub record Clear (n : ℕ) (f : ℕ → Cell) : Type 0 where
+  pub steps : (k : ℕ) → k < n → mem (stepOf (f k .mode)) clearSteps ≡ true
+  pub acts : some (acting f) n ≡ true
+  pub who : ℕ
+  pub sole : Sole n f requesting who
+
+pub data BusyAt (b : Bool) (n : ℕ) (f : ℕ → Cell) : Type 0 where
+  talks : Talk b n f → BusyAt b n f
+  clears : Clear n f → BusyAt b n f
 
 pub record GappingAt (n : ℕ) (f : ℕ → Cell) (j : ℕ) : Type 0 where
   pub gap-lt : j < n
   pub calm : (k : ℕ) → k < n → mem (placeOf (f k .mode)) quiet ≡ true
   pub past : (k : ℕ) → k < n → k < j → placeOf (f k .mode) ≡ P.rest
 
-abbrev pub Stage : Phase → ℕ → (ℕ → Cell) → Type 0
-Stage Idle n f = (k : ℕ) → k < n → placeOf (f k .mode) ≡ P.rest
-Stage Busy n f = BusyAt n f
-Stage (Delivering w g j) n f = Delivery n f w g j
-Stage Granting n f = GrantingAt n f
-Stage (Gapping j) n f = GappingAt n f j
+pub record IdleAt (b : Bool) (n : ℕ) (f : ℕ → Cell) : Type 0 where
+  pub unmarked : b ≡ false
+  pub resting : (k : ℕ) → k < n → placeOf (f k .mode) ≡ P.rest
+
+abbrev pub Stage : Bool → Phase → ℕ → (ℕ → Cell) → Type 0
+Stage b Idle n f = IdleAt b n f
+Stage b Busy n f = BusyAt b n f
+Stage b (Delivering w g j) n f = Delivery b n f w g j
+Stage b Granting n f = GrantingAt n f
+Stage b (Gapping j) n f = GappingAt n f j
 
 -- What is left, in forward actions. While the bus grants and clears: 2 for a node that owes or was told, 1 for one that answers or is spurious
 abbrev pub weigh : ℕ → ℕ
@@ -204,19 +267,19 @@ rowRank d c n = rowAt d .turns * n + rowAt d .more + bonus c
 abbrev pub turnRank : ℕ → ℕ → ℕ
 turnRank t n = turnAt t .turns * n + turnAt t .more
 
-abbrev pub clearRank : ℕ → (ℕ → Cell) → ℕ
-clearRank n f = 10 * n + 1 + total (weights f) n
+abbrev pub clearRank : Bool → ℕ → (ℕ → Cell) → ℕ
+clearRank b n f = cond b (4 * n) (13 * n + 3) + total (weights f) n
 
-abbrev pub busyRank : (n : ℕ) (f : ℕ → Cell) → BusyAt n f → ℕ
-busyRank n f (talks a) = turnRank (a .t) n
-busyRank n f (clears a y) = clearRank n f
+abbrev pub busyRank : (b : Bool) (n : ℕ) (f : ℕ → Cell) → BusyAt b n f → ℕ
+busyRank b n f (talks a) = turnRank (a .t) n
+busyRank b n f (clears a) = clearRank b n f
 
-abbrev pub rank : (p : Phase) (n : ℕ) (f : ℕ → Cell) → Stage p n f → ℕ
-rank Idle n f a = 0
-rank Busy n f a = busyRank n f a
-rank (Delivering w g j) n f a = left w j n + rowRank (a .d) (stepOf (f w .mode)) n
-rank Granting n f a = clearRank n f
-rank (Gapping j) n f a = n - j
+abbrev pub rank : (b : Bool) (p : Phase) (n : ℕ) (f : ℕ → Cell) → Stage b p n f → ℕ
+rank b Idle n f a = 0
+rank b Busy n f a = busyRank b n f a
+rank b (Delivering w g j) n f a = left w j n + rowRank (a .d) (stepOf (f w .mode)) n
+rank b Granting n f a = clearRank b n f
+rank b (Gapping j) n f a = n - j
 
 -- The classes in which a signal of a kind can arrive
 abbrev pub arrivals : List (List ℕ)
@@ -236,23 +299,33 @@ comes me (Header h good) = pick (λ c. mem c (S.headerGood ∷ S.headerBad ∷ [
 comes me (Data d good) = pick (λ c. mem c (S.dataGood ∷ S.dataBad ∷ []) ≡ true) good _ _ refl refl
 comes me (Ack a good) = pick (λ c. mem c (S.ackGood ∷ S.ackBad ∷ []) ≡ true) good _ _ refl refl
 
--- one computed test over 18 rows, 23 places and 14 classes: each node that was in a place of `before` comes to one of `after`
+-- one computed test over 22 rows, 24 places and 14 classes: each node that was in a place of `before` comes to one of `after`, and to one of `sole` only if it was in one
 leads : ℕ → Next → ℕ → ℕ → Bool
-leads d y p c = implies (mem p (rowAt d .before) && mem c (getD arrivals (rowAt d .kind) [])) (mem (y .place) (rowAt d .after))
+leads d y p c =
+    implies (mem p (rowAt d .before) && mem c (getD arrivals (rowAt d .kind) [])) (mem (y .place) (rowAt d .after) && implies (mem (y .place) (rowAt d .sole)) (mem p (rowAt d .sole)))
 
-all-lead : T (every (λ d. everyPair (λ p c. leads d (next p c) p c) 23 14) 18)
+all-lead : T (every (λ d. everyPair (λ p c. leads d (next p c) p c) 24 14) 22)
 unfolding leads
 all-lead = tt
 
 holds : {b : Bool} → b ≡ true → T b
 holds {b} e = subst T (sym e) tt
 
-pub heard-lands : (d : ℕ) → d < 18 → (me : ℕ) (m : Mode) (s : Signal) → kindOf s ≡ rowAt d .kind → mem (placeOf m) (rowAt d .before) ≡ true → mem (placeOf (hears me m s .mode)) (rowAt d .after) ≡ true
+-- what the row says of a node that was in mode m and comes to a place p
+pub record Lands (d p : ℕ) (m : Mode) : Type 0 where
+  pub after : mem p (rowAt d .after) ≡ true
+  pub sole : mem (placeOf m) (rowAt d .sole) ≡ false → mem p (rowAt d .sole) ≡ false
+
+pub heard-lands : (d : ℕ) → d < 22 → (me : ℕ) (m : Mode) (s : Signal) → kindOf s ≡ rowAt d .kind → mem (placeOf m) (rowAt d .before) ≡ true → Lands d (placeOf (hears me m s .mode)) m
 unfolding leads
 heard-lands d h me m s e t =
-    implied _ _ (law (leads d) (holds (table-at (λ d. everyPair (λ p c. leads d (next p c) p c) 23 14) 18 all-lead d h)) me m s)
-    (both _ _ t (subst (λ k. mem (classOf me s) (getD arrivals k []) ≡ true) e (comes me s)))
+    let z = and-true _ _ (implied _ _ (law (leads d) (holds (table-at (λ d. everyPair (λ p c. leads d (next p c) p c) 24 14) 22 all-lead d h)) me m s)
+    (both _ _ t (subst (λ k. mem (classOf me s) (getD arrivals k []) ≡ true) e (comes me s)))) in
+    record { after = z .0; sole = λ q. not-implied _ _ (z .1) q }
 
 -- a signal that is lost leaves a node where it is allowed too: Header, Data and Ack
-pub lost-lands : (d : ℕ) → d < 18 → leb 6 (rowAt d .kind) ≡ true → everyIn (rowAt d .before) (rowAt d .after) ≡ true
-lost-lands d h e = implied _ _ (table-at (λ d. implies (leb 6 (rowAt d .kind)) (everyIn (rowAt d .before) (rowAt d .after))) 18 tt d h) e
+pub lost-lands : (d : ℕ) → d < 22 → leb 6 (rowAt d .kind) ≡ true → (m : Mode) → mem (placeOf m) (rowAt d .before) ≡ true → Lands d (placeOf m) m
+lost-lands d h e m t = record {
+  after = mem-sub (rowAt d .before) (rowAt d .after) (implied _ _ (table-at (λ d. implies (leb 6 (rowAt d .kind)) (everyIn (rowAt d .before) (rowAt d .after))) 22 tt d h) e) (placeOf m) t;
+  sole = λ q. q;
+}

@@ -11,8 +11,8 @@ use Rattle.charts.specs.declared.Report.the-variants as R
 use Rattle.charts.specs.declared.Phase.{Phase}
 use Rattle.charts.specs.declared.Phase.the-variants.{Idle, Busy, Delivering, Granting, Gapping}
 use Rattle.charts.specs.declared.Cell.{Cell}
-use Rattle.charts.specs.declared.Clears.{Clears}
-use Rattle.charts.specs.declared.Clears.the-variants as C
+use Rattle.charts.specs.declared.Marking.{Marking}
+use Rattle.charts.specs.declared.Marking.the-variants as M
 use Rattle.charts.specs.declared.Way.the-variants.{Pass, Lose, Change}
 use Rattle.charts.specs.declared.Move.{Move}
 use Rattle.charts.specs.declared.Move.the-variants.{Request, Arbitrate, Respond, Clock, Carry, Grant, GapNext, Reset}
@@ -20,7 +20,7 @@ use Rattle.charts.specs.declared.Action.{Action}
 use Rattle.charts.specs.declared.Decoded.{Decoded}
 use Rattle.charts.specs.declared.Decoded.the-variants.{Refused, Accepted}
 use Rattle.charts.specs.Numbers as N
-use Rattle.charts.specs.State.{State, pendings, cleared}
+use Rattle.charts.specs.State.{State, pendings, remarked}
 use Rattle.charts.specs.Actions.{Outcome, closed, does, nextOf}
 use Rattle.charts.specs.Records.{isKind, namesNode, namesAddress, clean, isAddress, moveOf, read}
 use Rattle.charts.specs.Valid.{isSize, isAck, phaseFits, cellFits, valid}
@@ -116,7 +116,7 @@ about-lt s v Reset k = omega (arith, v .two)
 -- a step's answer with its event
 pub data Stepped (s : State) (a : Action) : Result → Event → Type 0 where
   refused : {k : ℕ} → eqb k N.accepted ≡ false → Stepped s a (refuses s k) (refusal k)
-  acts : {i : ℕ} {r : Report} {p : Phase} {c : Cell} {x : Clears} → Valid s → Known (s .n) (moveOf a) → i < s .n → Effect s (moveOf a) i (does r p c x) →
+  acts : {i : ℕ} {r : Report} {p : Phase} {c : Cell} {x : Marking} → Valid s → Known (s .n) (moveOf a) → i < s .n → Effect s (moveOf a) i (does r p c x) →
       Stepped s a (carryOut s i (does r p c x)) (accepted (moveOf a) r)
 
 pub stepped : (s : State) (a : Action) → Stepped s a (step s a) (eventOf a (step s a))
@@ -135,17 +135,18 @@ stepped s a = pick-by (λ d. Stepped s a (stepWith s d) (eventOf a (stepWith s d
     go e (Accepted m) (taken k) = out e k (comesTo s (moveOf a)) (effect s (moveOf a))
 
 -- the number of nodes never changes
-pub cleared-n : (x : Clears) (t : State) → cleared x t .n ≡ t .n
-cleared-n C.Nothing t = refl
-cleared-n C.Misled t = refl
-cleared-n C.Won t = refl
+pub remarked-n : (x : Marking) (t : State) → remarked x t .n ≡ t .n
+remarked-n M.Nothing t = refl
+remarked-n M.Misled t = refl
+remarked-n M.Won t = refl
+remarked-n (M.Concatenated b) t = refl
 
 pub step-n : (s : State) (a : Action) → step s a .state .n ≡ s .n
 step-n s a = go (step s a) (eventOf a (step s a)) (stepped s a)
   where
     go : (x : Result) (e : Event) → Stepped s a x e → x .state .n ≡ s .n
     go x e (refused q) = refl
-    go x e (acts {x = y} v k l z) = cleared-n y _
+    go x e (acts {x = y} v k l z) = remarked-n y _
 
 pub run-n : (s : State) (l : List Action) → after s l .n ≡ s .n
 run-n s [] = refl

@@ -15,7 +15,7 @@ use Rattle.charts.specs.declared.Buffer.{Buffer}
 use Rattle.charts.specs.declared.Buffer.the-variants.{Empty, Full}
 use Rattle.charts.specs.declared.Phase.{Phase}
 use Rattle.charts.specs.declared.Cell.{Cell}
-use Rattle.charts.specs.declared.Clears.{Clears}
+use Rattle.charts.specs.declared.Marking.{Marking}
 use Rattle.charts.specs.declared.Move.{Move}
 use Rattle.charts.specs.declared.Move.the-variants.{Request, Arbitrate, Respond, Clock, Carry, Grant, GapNext, Reset}
 use Rattle.charts.specs.declared.Action.{Action}
@@ -48,11 +48,11 @@ data Single (n : ℕ) : Event → Type 0 where
   answered : {j a : ℕ} {h : Bool} → Single n (accepted (Respond j a h) Silent)
   loud : {m : Move} {r : Report} → Aside m → (r ≡ Silent) ⊎ (nodeOf r < n) → Single n (accepted m r)
 
-single : (s : State) {i : ℕ} {r : Report} {p : Phase} {c : Cell} {x : Clears} (n : ℕ) (m : Move) → (r ≡ Silent) ⊎ (nodeOf r < n) → Effect s m i (does r p c x) → Single n (accepted m r)
+single : (s : State) {i : ℕ} {r : Report} {p : Phase} {c : Cell} {x : Marking} (n : ℕ) (m : Move) → (r ≡ Silent) ⊎ (nodeOf r < n) → Effect s m i (does r p c x) → Single n (accepted m r)
 single s n (Request j p) o (waits e f) = asked
 single s n (Request j p) o (replies e) = asked
 single s n (Arbitrate j) o e = loud (record { no-entry = λ y b. refl; no-hold = λ i h. refl; no-request = λ i. refl; no-respond = refl }) o
-single s n (Respond j a h) o (Ways.gives e) = answered
+single s n (Respond j a h) o (Ways.gives e u) = answered
 single s n (Clock j) o e = loud (record { no-entry = λ y b. refl; no-hold = λ i h. refl; no-request = λ i. refl; no-respond = refl }) o
 single s n (Carry w) o e = loud (record { no-entry = λ y b. refl; no-hold = λ i h. refl; no-request = λ i. refl; no-respond = refl }) o
 single s n Grant o e = loud (record { no-entry = λ y b. refl; no-hold = λ i h. refl; no-request = λ i. refl; no-respond = refl }) o

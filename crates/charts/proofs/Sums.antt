@@ -11,7 +11,7 @@ use Rattle.charts.specs.declared.Cell.{Cell}
 use Rattle.charts.specs.Modes.{placeOf}
 use Rattle.charts.specs.State.{upd}
 use Rattle.charts.specs.Actions.{firstOther, nextOther}
-use Rattle.charts.proofs.Tools.{pick-by, upd-same, upd-other}
+use Rattle.charts.proofs.Tools.{pick-by, by-test, upd-same, upd-other}
 use Rattle.charts.proofs.Places.{law-mode}
 use Rattle.charts.proofs.Stages.{weigh, weights, total, left}
 
@@ -53,6 +53,12 @@ total-none v (suc n) h = omega (arith, total-none v n (λ k l. h k (omega arith)
 -- where all but i are 0
 pub total-one : (v : ℕ → ℕ) (i n : ℕ) → i < n → ((k : ℕ) → k < n → k ≢ i → v k ≡ 0) → total v n ≡ v i
 total-one v i n l h = omega (arith, total-diff v (λ k. 0) i n h l, total-none (λ k. 0) n (λ k z. refl))
+
+-- where all but one are 0
+pub total-sole : (v : ℕ → ℕ) (n who : ℕ) → ((k : ℕ) → v k ≤ 2) → ((k : ℕ) → k < n → k ≢ who → v k ≡ 0) → total v n ≤ 2
+total-sole v n who h z = by-test (ltb who n)
+    (λ e. omega (arith, total-one v who n (ltb-true who n e) z, h who))
+    (λ e. let l : n ≤ who = ltb-false who n e in omega (arith, total-none v n (λ k o. z k o (λ q. absurd (omega arith)))))
 
 pub weigh-le : (m : Mode) → weigh (placeOf m) ≤ 2
 weigh-le m = leb-true _ 2 (law-mode (λ p. lib.Dec.leb (weigh p) 2) tt m)

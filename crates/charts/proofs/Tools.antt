@@ -28,6 +28,11 @@ pub implied : (a b : Bool) → implies a b ≡ true → a ≡ true → b ≡ tru
 implied true b t e = t
 implied false b t e = never e
 
+-- and back
+pub not-implied : (a b : Bool) → implies a b ≡ true → b ≡ false → a ≡ false
+not-implied true b e q = clash b e q
+not-implied false b e q = refl
+
 pub and-true : (a b : Bool) → a && b ≡ true → (a ≡ true) × (b ≡ true)
 and-true true b e = (refl, e)
 and-true false b e = never e
@@ -59,6 +64,10 @@ or-yes false = refl
 pub and-yes : (b : Bool) → b && true ≡ b
 and-yes true = refl
 and-yes false = refl
+
+pub and-no : (b : Bool) → b && false ≡ false
+and-no true = refl
+and-no false = refl
 
 pub beq-eq : (a b : Bool) → Bool·beq a b ≡ true → a ≡ b
 beq-eq true true t = refl
@@ -205,6 +214,9 @@ mem-sub (x ∷ k) l t c h = go (eqb c x) refl (mem-sub k l (and-true (mem x l) _
     go : (b : Bool) → eqb c x ≡ b → (mem c k ≡ true → mem c l ≡ true) → mem c l ≡ true
     go true e r = subst (λ y. mem y l ≡ true) (sym (eqb-true c x e)) (and-true (mem x l) _ t .0)
     go false e r = r (or-true (eqb c x) (mem c k) h e)
+
+pub not-mem-sub : (k l : List ℕ) → everyIn k l ≡ true → (c : ℕ) → mem c l ≡ false → mem c k ≡ false
+not-mem-sub k l t c e = by-test (mem c k) (λ h. clash _ (mem-sub k l t c h) e) (λ h. h)
 
 pub mem-one : (x c : ℕ) → mem c (x ∷ []) ≡ true → c ≡ x
 mem-one x c h = go (eqb c x) refl

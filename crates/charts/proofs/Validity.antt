@@ -20,8 +20,8 @@ use Rattle.charts.specs.declared.Phase.{Phase}
 use Rattle.charts.specs.declared.Phase.the-variants.{Delivering}
 use Rattle.charts.specs.declared.Cell.{Cell}
 use Rattle.charts.specs.declared.Heard.{Heard}
-use Rattle.charts.specs.declared.Clears.{Clears}
-use Rattle.charts.specs.declared.Clears.the-variants as C
+use Rattle.charts.specs.declared.Marking.{Marking}
+use Rattle.charts.specs.declared.Marking.the-variants as M
 use Rattle.charts.specs.declared.Move.{Move}
 use Rattle.charts.specs.declared.Move.the-variants.{Carry}
 use Rattle.charts.specs.declared.Way.{Way}
@@ -34,7 +34,7 @@ use Rattle.charts.specs.Signals as S
 use Rattle.charts.specs.Signals.{classOf, isLine, ackOf, isEnd}
 use Rattle.charts.specs.Reception.{hears}
 use Rattle.charts.specs.Numbers as N
-use Rattle.charts.specs.State.{State, moved, cleared, fresh, some, others, pendings, holders}
+use Rattle.charts.specs.State.{State, moved, remarked, fresh, some, others, pendings, holders}
 use Rattle.charts.specs.Actions.{Outcome, closed, does, firstOther, nextOther, onward}
 use Rattle.charts.specs.Records.{isKind, clean, namesNode, namesAddress, isAddress, read}
 use Rattle.charts.specs.Valid.{isSize, isAck, modeFits, bufferFits, cellFits, signalFits, phaseFits, valid}
@@ -84,7 +84,7 @@ bare p = not (mem p (P.ackGood ∷ P.sending ∷ P.acking ∷ []))
 bare-fits : (m : Mode) → bare (placeOf m) ≡ true → modeFits m ≡ true
 unfolding modeFits
 bare-fits m e =
-    rw (mode-at m) (implied (bare (placeOf m)) _ (table-at test 23 tt (placeOf m) (place-lt m)) e)
+    rw (mode-at m) (implied (bare (placeOf m)) _ (table-at test 24 tt (placeOf m) (place-lt m)) e)
   where
     test : ℕ → Bool
     test p = implies (bare p) (modeFits (getD (modes (stepIn m) (ackIn m) (holdIn m) (headIn m) (datumIn m)) p Spurious))
@@ -212,7 +212,7 @@ module _ (s : State) (v : Valid s) where
   fit {i = i} k l (W.replies e) = (v .phase-fits, record { mode-fits = refl; buffer-fits = was i l .buffer-fits; packet-fits = k .1 })
   fit {i = i} k l (W.wins q e b w) = (refl, record { mode-fits = refl; buffer-fits = refl; packet-fits = subst (λ b. bufferFits n b ≡ true) b (was i l .buffer-fits) })
   fit {i = i} k l W.loses = (v .phase-fits, was i l)
-  fit {i = i} k l (W.gives e) = (v .phase-fits, in-mode i l _ (k .1))
+  fit {i = i} k l (W.gives e u) = (v .phase-fits, in-mode i l _ (k .1))
   fit {i = i} k l (W.puts {g = g} q h o x) =
       let y = puts-fit n x (was i l .mode-fits) (was i l .packet-fits) in (first-fits n i g (v .two) l (y .0), in-mode i l _ (y .1))
   fit {i = i} k l (W.frees q h e) = (pick (λ p. phaseFits n p ≡ true) (others (holders (s .cell)) i n) _ _ refl (lt-ltb 0 n (omega (arith, l))), in-mode i l _ refl)
@@ -228,8 +228,8 @@ module _ (s : State) (v : Valid s) where
       Fits : Mode → Type 0
       Fits m = modeFits m ≡ true
   fit {i = i} k l (W.grants-none q e) = (refl, was i l)
-  fit {i = i} k l (W.gaps q) =
-      (pick-by (λ p. phaseFits n p ≡ true) (ltb (suc i) n) _ _ (λ e. e) (λ e. refl), in-mode i l _ (hears-fits n i (s .cell i .mode) Gap refl (was i l .mode-fits)))
+  fit {i = i} k l (W.gaps q u) = (lt-ltb (suc i) n u, in-mode i l _ (hears-fits n i (s .cell i .mode) Gap refl (was i l .mode-fits)))
+  fit {i = i} k l (W.settles q u) = (refl, in-mode i l _ (hears-fits n i (s .cell i .mode) Gap refl (was i l .mode-fits)))
   fit {i = i} k l (W.resets q) = (v .phase-fits, was i l)
 
 -- the state after, then: another phase and another cell, and some marks cleared
@@ -237,18 +237,19 @@ moved-valid : (s : State) (p : Phase) (i : ℕ) (c : Cell) → Valid s → phase
 moved-valid s p i c v f g =
     record { two = v .two; small = v .small; phase-fits = f; cells-fit = λ k l. at-upd (λ k c. cellFits (s .n) c ≡ true) (s .cell) i c k (fits-cell (s .n) c g) (v .cells-fit k l) }
 
-cleared-valid : (x : Clears) (s : State) → Valid s → Valid (cleared x s)
+remarked-valid : (x : Marking) (s : State) → Valid s → Valid (remarked x s)
 unfolding cellFits
-cleared-valid C.Nothing s v = v
-cleared-valid C.Misled s v = record { two = v .two; small = v .small; phase-fits = v .phase-fits; cells-fit = v .cells-fit }
-cleared-valid C.Won s v = record { two = v .two; small = v .small; phase-fits = v .phase-fits; cells-fit = v .cells-fit }
+remarked-valid M.Nothing s v = v
+remarked-valid M.Misled s v = record { two = v .two; small = v .small; phase-fits = v .phase-fits; cells-fit = v .cells-fit }
+remarked-valid M.Won s v = record { two = v .two; small = v .small; phase-fits = v .phase-fits; cells-fit = v .cells-fit }
+remarked-valid (M.Concatenated b) s v = record { two = v .two; small = v .small; phase-fits = v .phase-fits; cells-fit = v .cells-fit }
 
 pub valid-kept : (s : State) (a : Action) → valid s ≡ true → valid (step s a .state) ≡ true
 valid-kept s a e = go (stepped s a)
   where
     go : {r : Result} {w : Event} → Stepped s a r w → valid (r .state) ≡ true
     go (refused k) = e
-    go (acts {i} {r} {p} {c} {x} v k l w) = let f = fit s v k l w in valid-is (cleared x (moved s p i c)) (cleared-valid x (moved s p i c) (moved-valid s p i c v (f .0) (f .1)))
+    go (acts {i} {r} {p} {c} {x} v k l w) = let f = fit s v k l w in valid-is (remarked x (moved s p i c)) (remarked-valid x (moved s p i c) (moved-valid s p i c v (f .0) (f .1)))
 
 -- a run from a fresh bus
 valid-after : (s : State) (l : List Action) → valid s ≡ true → valid (after s l) ≡ true

@@ -23,7 +23,7 @@ nodeIn c = record { mode = c .mode; buffer = c .buffer; sending = c .sending }
 pub view-exact : (b d : Bus) → Sized b → Sized d → view b ≡ view d → b ≡ d
 unfolding view
 view-exact b d y z e =
-    λ t. record { n = ap (λ (s : State). s .n) e t; phase = ap (λ (s : State). s .phase) e t; nodes = nodes t; won = won t; pending = pending t; holder = holder t; misled = misled t }
+    λ t. record { n = ap (λ (s : State). s .n) e t; phase = ap (λ (s : State). s .phase) e t; nodes = nodes t; won = won t; pending = pending t; holder = holder t; misled = misled t; concatenated = ap (λ (s : State). s .concatenated) e t }
   where
     -- what is read of a cell is the same in both
     same : {A : Type 0} (f : Cell → A) (k : ℕ) → f (view b .cell k) ≡ f (view d .cell k)
@@ -54,10 +54,10 @@ getD-set {A} l i a d h k = go (eqb k i) refl
 
 -- storing a node's record and its four marks at i is moving cell i. (An array that an action leaves alone is `set l i (getD l i d)`: `set-getD` of lib.Seq)
 pub view-set : (b : Bus) (p : Phase) (i : ℕ) (x : Node) (w q h m : Bool) → Sized b → i < 63 →
-    view (record { n = b .n; phase = p; nodes = set (b .nodes) i x; won = set (b .won) i w; pending = set (b .pending) i q; holder = set (b .holder) i h; misled = set (b .misled) i m })
+    view (record { n = b .n; phase = p; nodes = set (b .nodes) i x; won = set (b .won) i w; pending = set (b .pending) i q; holder = set (b .holder) i h; misled = set (b .misled) i m; concatenated = b .concatenated })
     ≡ moved (view b) p i (cellOf x w q h m)
 unfolding view
-view-set b p i x w q h m z l = λ t. record { n = b .n; phase = p; cell = fun-ext cells t }
+view-set b p i x w q h m z l = λ t. record { n = b .n; phase = p; concatenated = b .concatenated; cell = fun-ext cells t }
   where
     in-it : {A : Type 0} (k : List A) → length k ≡ 63 → i < length k
     in-it k e = omega arith

@@ -1,13 +1,13 @@
--- The one walk through the actions: the fourteen ways in which an accepted action acts. Every invariant is then proved by one clause for each way.
+-- The one walk through the actions: the fifteen ways in which an accepted action acts. Every invariant is then proved by one clause for each way.
 use mathlib.Core.Path.{_≡_, refl, sym, ap, subst, _∙_}
 use mathlib.Core.Bool.{Bool, true, false, _&&_, not}
-use Prim.Native.Nat.{ℕ, _≤_}
+use Prim.Native.Nat.{ℕ, suc, _<_, _≤_}
 use native.Mathlib.Omega.{arith}
-use lib.Dec.{eqb, leb}
-use borrow.Author.Tests.{eqb-true, eqb-false, not-true}
+use lib.Dec.{eqb, ltb, leb}
+use borrow.Author.Tests.{eqb-true, eqb-false, ltb-true, ltb-false, not-true}
 use Rattle.charts.specs.declared.Head.{Head}
 use Rattle.charts.specs.declared.Mode.{Mode}
-use Rattle.charts.specs.declared.Mode.the-variants.{Rest, AwaitAck, AckBody, AckEnd, Opened, Addressed, HeadOwn, HeadAll, BodyOwn, BodyAll, TailOwn, TailAll, Wait, Owed, Sending, Told, Answering, Acking, Holding, Spurious}
+use Rattle.charts.specs.declared.Mode.the-variants.{Rest, AwaitAck, AckBody, AckEnd, Opened, Addressed, HeadOwn, HeadAll, BodyOwn, BodyAll, TailOwn, TailAll, Wait, Owed, Sending, Told, Answering, Acking, Holding, Spurious, Listening}
 use Rattle.charts.specs.declared.Signal.{Signal}
 use Rattle.charts.specs.declared.Signal.the-variants.{Start, End, Prefix, Gap, Dhead, Dest, Header, Data, Ack}
 use Rattle.charts.specs.declared.Report.{Report}
@@ -22,7 +22,7 @@ use Rattle.charts.specs.declared.Output.the-variants as O
 use Rattle.charts.specs.declared.Arrival.{Arrival}
 use Rattle.charts.specs.declared.Way.{Way}
 use Rattle.charts.specs.declared.Way.the-variants.{Pass, Lose, Change}
-use Rattle.charts.specs.declared.Clears.the-variants as C
+use Rattle.charts.specs.declared.Marking.the-variants as M
 use Rattle.charts.specs.declared.Move.{Move}
 use Rattle.charts.specs.declared.Move.the-variants.{Request, Arbitrate, Respond, Clock, Carry, Grant, GapNext, Reset}
 use Rattle.charts.specs.Modes as P
@@ -35,7 +35,7 @@ use Rattle.charts.specs.Arrivals as Arrivals
 use Rattle.charts.specs.Arrivals.{passed}
 use Rattle.charts.specs.State.{State, wons, pendings, holders, some, others, lowest, isIdle, isBusy, isGranting, isEmpty}
 use Rattle.charts.specs.Actions as Actions
-use Rattle.charts.specs.Actions.{Outcome, closed, does, quietly, when, fills, answers, firstOther, putsOut, clearedBy, freed, afterFree, hearing, delivers, takesGrant, afterGrant, takesGap, afterGap, nextOf}
+use Rattle.charts.specs.Actions.{Outcome, closed, does, quietly, when, fills, mayAnswer, answers, firstOther, putsOut, markingBy, freed, afterFree, hearing, delivers, takesGrant, afterGrant, takesGap, nextOf}
 use Rattle.charts.specs.Step.{about, comesTo}
 use Rattle.charts.proofs.Tools.{never, and-true, pick-by}
 use Rattle.charts.proofs.Places.{mode-is}
@@ -76,17 +76,17 @@ pub data Arrives (misled : Bool) : Way → Signal → Signal → Bool → Type 0
   bad-data : {b d : ℕ} {c : Bool} → Arrives misled (Change b) (Data d c) (Data d false) false
   bad-ack : {b a : ℕ} {c : Bool} → Arrives misled (Change b) (Ack a c) (Ack a false) false
 
--- an action m about node i comes to o, in one of fourteen ways (or it is not open)
+-- an action m about node i comes to o, in one of fifteen ways (or it is not open)
 pub data Effect (s : State) : Move → ℕ → Outcome → Type 0 where
   refuses : {m : Move} {i : ℕ} → Effect s m i closed
   waits : {i : ℕ} {p : Packet} → placeOf (s .cell i .mode) ≡ P.rest → s .cell i .buffer ≡ Empty → Effect s (Request i p) i (quietly (s .phase) (fills p (s .cell i)))
   replies : {i : ℕ} {p : Packet} → s .cell i .mode ≡ Holding → Effect s (Request i p) i (quietly (s .phase) (Actions.replies p (s .cell i)))
   wins : {i : ℕ} {p : Packet} → s .phase ≡ Idle → placeOf (s .cell i .mode) ≡ P.rest → s .cell i .buffer ≡ Full p → s .cell i .won ≡ false →
-      Effect s (Arbitrate i) i (does (R.Won i) Busy (Actions.wins p (s .cell i)) C.Nothing)
-  loses : {i : ℕ} → Effect s (Arbitrate i) i (does (R.Lost i) (s .phase) (s .cell i) C.Nothing)
-  gives : {i a : ℕ} {h : Bool} → s .cell i .mode ≡ Answering → Effect s (Respond i a h) i (quietly (s .phase) (answers a h (s .cell i)))
+      Effect s (Arbitrate i) i (does (R.Won i) Busy (Actions.wins p (s .cell i)) M.Nothing)
+  loses : {i : ℕ} → Effect s (Arbitrate i) i (does (R.Lost i) (s .phase) (s .cell i) M.Nothing)
+  gives : {i a : ℕ} {h : Bool} → s .cell i .mode ≡ Answering → mayAnswer (s .concatenated) h ≡ true → Effect s (Respond i a h) i (quietly (s .phase) (answers a h (s .cell i)))
   puts : {i : ℕ} {g : Signal} {m : Mode} {r : Report} → s .phase ≡ Busy → s .cell i .holder ≡ true → others (holders (s .cell)) i (s .n) ≡ false → Puts i (s .cell i .sending) (s .cell i .mode) g m r →
-      Effect s (Clock i) i (does r (Delivering i g (firstOther i)) (putsOut g m (s .cell i)) (clearedBy g))
+      Effect s (Clock i) i (does r (Delivering i g (firstOther i)) (putsOut g m (s .cell i)) (markingBy (s .cell i .mode) g))
   frees : {i : ℕ} → s .phase ≡ Busy → s .cell i .holder ≡ true → s .cell i .mode ≡ Spurious →
       Effect s (Clock i) i (quietly (afterFree (s .n) i (holders (s .cell))) (freed (s .cell i)))
   arrives : {v : Way} {w : ℕ} {g : Signal} {j : ℕ} {t : Signal} {b : Bool} → s .phase ≡ Delivering w g j → Arrives (s .cell j .misled) v g t b →
@@ -95,9 +95,11 @@ pub data Effect (s : State) : Move → ℕ → Outcome → Type 0 where
   grants : {i : ℕ} → s .phase ≡ Granting → some (pendings (s .cell)) (s .n) ≡ true → lowest (pendings (s .cell)) (s .n) 0 ≡ i →
       Effect s Grant i (quietly (afterGrant (s .n) i (pendings (s .cell))) (takesGrant (s .cell i)))
   grants-none : {i : ℕ} → s .phase ≡ Granting → some (pendings (s .cell)) (s .n) ≡ false → Effect s Grant i (quietly Busy (s .cell i))
-  gaps : {j : ℕ} → s .phase ≡ Gapping j →
-      Effect s GapNext j (does (hears j (s .cell j .mode) Gap .report) (afterGap (s .n) j) (takesGap j (s .cell j)) C.Nothing)
-  resets : {i : ℕ} → s .phase ≡ Idle → Effect s Reset i (does R.Silent (s .phase) (s .cell i) C.Won)
+  gaps : {j : ℕ} → s .phase ≡ Gapping j → suc j < s .n →
+      Effect s GapNext j (does (hears j (s .cell j .mode) Gap .report) (Gapping (suc j)) (takesGap j (s .cell j)) M.Nothing)
+  settles : {j : ℕ} → s .phase ≡ Gapping j → s .n ≤ suc j →
+      Effect s GapNext j (does (hears j (s .cell j .mode) Gap .report) Idle (takesGap j (s .cell j)) (M.Concatenated false))
+  resets : {i : ℕ} → s .phase ≡ Idle → Effect s Reset i (does R.Silent (s .phase) (s .cell i) M.Won)
 
 pub is-idle : (p : Phase) → isIdle p ≡ true → p ≡ Idle
 is-idle Idle e = refl
@@ -193,6 +195,7 @@ module _ (s : State) where
     clocked (Acking k a b) e = acks k a b e
     clocked Holding e = out _ _ _ _ e holds-on
     clocked Spurious e = when-effect _ _ (s .cell i .holder) _ λ o. frees busy o e
+    clocked Listening e = refuses
 
   clock : (i : ℕ) → Effect s (Clock i) i (Actions.clock (s .n) (s .phase) i (s .cell i) (holders (s .cell)))
   unfolding Actions.clock
@@ -249,7 +252,7 @@ module _ (s : State) where
   gap Busy q = refuses
   gap (Delivering w g j) q = refuses
   gap Granting q = refuses
-  gap (Gapping j) q = gaps q
+  gap (Gapping j) q = pick-by (Effect s GapNext j) (ltb (suc j) (s .n)) _ _ (λ e. gaps q (ltb-true (suc j) (s .n) e)) (λ e. settles q (ltb-false (suc j) (s .n) e))
 
   reset : Effect s Reset 0 (Actions.reset (s .n) (s .phase) (s .cell 0) (wons (s .cell)))
   unfolding Actions.reset
@@ -260,7 +263,8 @@ module _ (s : State) where
   unfolding Actions.outcome Actions.arbitrate Actions.respond
   effect (Request i p) = request i p
   effect (Arbitrate i) = arbitrate i (s .cell i .buffer) refl
-  effect (Respond i a h) = when-effect _ _ (isAnswering (s .cell i .mode)) _ λ e. gives (mode-is (s .cell i .mode) P.answering (eqb-true _ _ e))
+  effect (Respond i a h) = when-effect _ _ (isAnswering (s .cell i .mode) && mayAnswer (s .concatenated) h) _ λ e.
+      let y = and-true (isAnswering (s .cell i .mode)) _ e in gives (mode-is (s .cell i .mode) P.answering (eqb-true _ _ (y .0))) (y .1)
   effect (Clock i) = clock i
   effect (Carry v) = carry v (s .phase) refl
   effect Grant = grant (lowest (pendings (s .cell)) (s .n) 0) refl

@@ -1,6 +1,6 @@
 -- Demand 3, whole: the invariants hold of the fresh bus with empty books, a step keeps them, and so they hold after every list; the claim is read off them.
 use mathlib.Core.Path.{_≡_, sym, ap, subst, _∙_}
-use mathlib.Core.Bool.{true}
+use mathlib.Core.Bool.{true, false}
 use mathlib.Core.List.{List, [], _∷_}
 use Prim.Native.Nat.{ℕ, _<_, _≤_}
 use native.Mathlib.Omega.{arith}
@@ -16,7 +16,7 @@ use Rattle.charts.specs.Stretch.{EveryAck}
 use Rattle.charts.proofs.Places.{mode-is}
 use Rattle.charts.proofs.Ways.{is-idle}
 use Rattle.charts.proofs.Steps.{Stepped, refused, acts, stepped, run-n}
-use Rattle.charts.proofs.Stages.{Stage}
+use Rattle.charts.proofs.Stages.{IdleAt, Stage}
 use Rattle.charts.proofs.Reach.{Reach, start}
 use Rattle.charts.proofs.Progress.{effect-reach}
 use Rattle.charts.proofs.Ends.{meets}
@@ -59,8 +59,15 @@ module _ (n : ℕ) (two : 2 ≤ n) (small : n ≤ 63) (l : List Action) where
   in-n : (i : ℕ) → i < n → i < final n l .n
   in-n i h = subst (λ m. i < m) (sym same-n) h
 
+  idle : isIdle (final n l .phase) ≡ true → IdleAt (final n l .concatenated) (final n l .n) (final n l .cell)
+  idle e = subst (λ p. Stage (final n l .concatenated) p (final n l .n) (final n l .cell)) (is-idle (final n l .phase) e) (whole .reached .stage)
+
   at-rest : isIdle (final n l .phase) ≡ true → (i : ℕ) → i < n → placeOf (final n l .cell i .mode) ≡ P.rest
-  at-rest e i h = subst (λ p. Stage p (final n l .n) (final n l .cell)) (is-idle (final n l .phase) e) (whole .reached .stage) i (in-n i h)
+  at-rest e i h = idle e .resting i (in-n i h)
+
+  -- an Idle bus is not marked
+  pub idle-unmarked : isIdle (final n l .phase) ≡ true → final n l .concatenated ≡ false
+  idle-unmarked e = idle e .unmarked
 
   pub demand-3 : Demand3 n l
   demand-3 = record {

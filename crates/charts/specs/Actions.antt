@@ -1,5 +1,6 @@
 -- "Bus and actions": what each of the ten kinds of action does. An action is about one node i: it makes a report, the bus goes to a phase, and that node's cell changes;
--- beyond that only a Start clears the misled marks and a reset the won marks. So each action is a function of the few values that it looks at.
+-- beyond that a Start clears the misled marks, a reset the won marks, and the bus's own mark is set by the Prefix that closes an acknowledgement and cleared where the bus becomes Idle.
+-- So each action is a function of the few values that it looks at.
 use mathlib.Core.Bool.{Bool, true, false, cond, _&&_, _||_, not}
 use Prim.Native.Nat.{ℕ, suc}
 use lib.Dec.{eqb, ltb}
@@ -21,24 +22,24 @@ use Rattle.charts.specs.declared.Output.the-variants as O
 use Rattle.charts.specs.declared.Way.{Way}
 use Rattle.charts.specs.declared.Arrival.{Arrival}
 use Rattle.charts.specs.declared.Arrival.the-variants as A
-use Rattle.charts.specs.declared.Clears.{Clears}
-use Rattle.charts.specs.declared.Clears.the-variants as C
+use Rattle.charts.specs.declared.Marking.{Marking}
+use Rattle.charts.specs.declared.Marking.the-variants as M
 use Rattle.charts.specs.declared.Move.{Move}
 use Rattle.charts.specs.declared.Move.the-variants.{Request, Arbitrate, Respond, Clock, Carry, Grant, GapNext, Reset}
-use Rattle.charts.specs.Modes.{isRest, isHolding, isAnswering, isTold, isOwed}
-use Rattle.charts.specs.Signals.{isStart, isEnd}
+use Rattle.charts.specs.Modes.{isRest, isHolding, isAnswering, isAcking, isTold, isOwed}
+use Rattle.charts.specs.Signals.{isStart, isEnd, isPrefix}
 use Rattle.charts.specs.Reception.{hears}
 use Rattle.charts.specs.Outputs.{output}
 use Rattle.charts.specs.Arrivals.{arrives}
 use Rattle.charts.specs.State.{setMode, setBuffer, setSending, setWon, setPending, setHolder, setMisled, upd, some, others, lowest, isIdle, isBusy, isGranting, isEmpty}
 
--- what an action comes to: it is not open; or its report, the bus's next phase, its node's next cell and the marks cleared
+-- what an action comes to: it is not open; or its report, the bus's next phase, its node's next cell and the other marks changed
 pub data Outcome : Type 0 where
   closed : Outcome
-  does : Report → Phase → Cell → Clears → Outcome
+  does : Report → Phase → Cell → Marking → Outcome
 
 abbrev pub quietly : Phase → Cell → Outcome
-quietly p c = does R.Silent p c C.Nothing
+quietly p c = does R.Silent p c M.Nothing
 
 abbrev pub when : Bool → Outcome → Outcome
 when true o = o
@@ -69,8 +70,8 @@ abbrev pub arbitrateWith : Phase → ℕ → Cell → Buffer → Outcome
 arbitrateWith ph i c Empty = closed
 arbitrateWith ph i c (Full p) =
     when (isRest (c .mode)) (cond (isIdle ph && not (c .won))
-    (does (R.Won i) Busy (wins p c) C.Nothing)
-    (does (R.Lost i) ph c C.Nothing))
+    (does (R.Won i) Busy (wins p c) M.Nothing)
+    (does (R.Lost i) ph c M.Nothing))
 
 unfoldable pub arbitrate : Phase → ℕ → Cell → Outcome
 arbitrate ph i c = arbitrateWith ph i c (c .buffer)
@@ -79,8 +80,12 @@ arbitrate ph i c = arbitrateWith ph i c (c .buffer)
 abbrev pub answers : ℕ → Bool → Cell → Cell
 answers a hold c = setMode (Acking 0 a hold) c
 
-unfoldable pub respond : Phase → Cell → ℕ → Bool → Outcome
-respond ph c a hold = when (isAnswering (c .mode)) (quietly ph (answers a hold c))
+-- the bus's mark, request 1: "While it is set, respond with hold 1 is not open"
+abbrev pub mayAnswer : Bool → Bool → Bool
+mayAnswer concatenated hold = not (concatenated && hold)
+
+unfoldable pub respond : Phase → Bool → Cell → ℕ → Bool → Outcome
+respond ph concatenated c a hold = when (isAnswering (c .mode) && mayAnswer concatenated hold) (quietly ph (answers a hold c))
 
 -- "every other node, lowest first": the first receiver of node i's signals, and the one after j
 abbrev pub firstOther : ℕ → ℕ
@@ -100,8 +105,9 @@ afterFree n i hs = cond (others hs i n) Busy (Gapping 0)
 abbrev pub putsOut : Signal → Mode → Cell → Cell
 putsOut s m c = setMode m (setHolder (not (isEnd s)) c)
 
-abbrev pub clearedBy : Signal → Clears
-clearedBy s = cond (isStart s) C.Misled C.Nothing
+-- the bus's mark, request 1: "set when an Acking node puts out its closing Prefix" (an Acking node puts out no other)
+abbrev pub markingBy : Mode → Signal → Marking
+markingBy m s = cond (isStart s) M.Misled (cond (isAcking m && isPrefix s) (M.Concatenated true) M.Nothing)
 
 -- "bus Busy, node a holder, and either it is Spurious, or it is the only holder and in Sending, Answering, Acking or Holding"
 abbrev pub clockWith : ℕ → ℕ → Cell → (ℕ → Bool) → Output → Outcome
@@ -109,7 +115,7 @@ clockWith n i c hs O.Nothing = closed
 clockWith n i c hs O.Frees = when (c .holder) (quietly (afterFree n i hs) (freed c))
 clockWith n i c hs (O.Puts s m r) =
     when (c .holder && not (others hs i n))
-    (does r (Delivering i s (firstOther i)) (putsOut s m c) (clearedBy s))
+    (does r (Delivering i s (firstOther i)) (putsOut s m c) (markingBy (c .mode) s))
 
 unfoldable pub clock : ℕ → Phase → ℕ → Cell → (ℕ → Bool) → Outcome
 clock n ph i c hs = when (isBusy ph) (clockWith n i c hs (output i (c .mode) (c .sending)))
@@ -124,7 +130,7 @@ abbrev pub hearing : Cell → Heard → Bool → Cell
 hearing c x misleads = setMode (x .mode) (setPending (c .pending || x .pends) (setMisled (c .misled || misleads) c))
 
 abbrev pub delivers : ℕ → ℕ → Signal → ℕ → (ℕ → Bool) → Report → Cell → Outcome
-delivers n i s j ps r c = does r (onward n i s j (upd ps j (c .pending))) c C.Nothing
+delivers n i s j ps r c = does r (onward n i s j (upd ps j (c .pending))) c M.Nothing
 
 abbrev pub deliverWith : ℕ → ℕ → Signal → ℕ → Cell → (ℕ → Bool) → Arrival → Outcome
 deliverWith n i s j c ps A.Closed = closed
@@ -156,23 +162,23 @@ grant n ph i c ps =
     (quietly (afterGrant n i ps) (takesGrant c))
     (quietly Busy c))
 
--- 9. gap: "bus Gapping. The next node gets Gap; after node n−1 the bus is Idle."
+-- 9. gap: "bus Gapping. The next node gets Gap; after node n−1 the bus is Idle." The bus's mark, request 1: "cleared when the bus becomes Idle"
 abbrev pub takesGap : ℕ → Cell → Cell
 takesGap j c = setMode (hears j (c .mode) Gap .mode) c
 
-abbrev pub afterGap : ℕ → ℕ → Phase
-afterGap n j = cond (ltb (suc j) n) (Gapping (suc j)) Idle
+abbrev pub gapsTo : Phase → Marking → ℕ → Cell → Outcome
+gapsTo p x j c = does (hears j (c .mode) Gap .report) p (takesGap j c) x
 
 unfoldable pub gap : ℕ → Phase → Cell → Outcome
 gap n Idle c = closed
 gap n Busy c = closed
 gap n (Delivering i s j) c = closed
 gap n Granting c = closed
-gap n (Gapping j) c = does (hears j (c .mode) Gap .report) (afterGap n j) (takesGap j c) C.Nothing
+gap n (Gapping j) c = cond (ltb (suc j) n) (gapsTo (Gapping (suc j)) M.Nothing j c) (gapsTo Idle (M.Concatenated false) j c)
 
 -- 10. reset: "bus Idle with some won mark; clears these marks"
 unfoldable pub reset : ℕ → Phase → Cell → (ℕ → Bool) → Outcome
-reset n ph c ws = when (isIdle ph && some ws n) (does R.Silent ph c C.Won)
+reset n ph c ws = when (isIdle ph && some ws n) (does R.Silent ph c M.Won)
 
 -- the node that an action is about: the one that it names; the next receiver; the lowest pending node; the next node to get Gap. (A reset is about none: node 0's cell stays.)
 abbrev pub nextOf : Phase → ℕ
@@ -192,13 +198,13 @@ target n ph ps Grant = lowest ps n 0
 target n ph ps GapNext = nextOf ph
 target n ph ps Reset = 0
 
--- the outcome of an action about node i, whose cell is c; ws, ps and hs are the won, pending and holder marks of all nodes
-unfoldable pub outcome : ℕ → Phase → ℕ → Cell → (ℕ → Bool) → (ℕ → Bool) → (ℕ → Bool) → Move → Outcome
-outcome n ph i c ws ps hs (Request j p) = request ph c p
-outcome n ph i c ws ps hs (Arbitrate j) = arbitrate ph i c
-outcome n ph i c ws ps hs (Respond j a hold) = respond ph c a hold
-outcome n ph i c ws ps hs (Clock j) = clock n ph i c hs
-outcome n ph i c ws ps hs (Carry w) = carry n ph c ps w
-outcome n ph i c ws ps hs Grant = grant n ph i c ps
-outcome n ph i c ws ps hs GapNext = gap n ph c
-outcome n ph i c ws ps hs Reset = reset n ph c ws
+-- the outcome of an action about node i, whose cell is c; b is the bus's own mark, ws, ps and hs are the won, pending and holder marks of all nodes
+unfoldable pub outcome : ℕ → Phase → Bool → ℕ → Cell → (ℕ → Bool) → (ℕ → Bool) → (ℕ → Bool) → Move → Outcome
+outcome n ph b i c ws ps hs (Request j p) = request ph c p
+outcome n ph b i c ws ps hs (Arbitrate j) = arbitrate ph i c
+outcome n ph b i c ws ps hs (Respond j a hold) = respond ph b c a hold
+outcome n ph b i c ws ps hs (Clock j) = clock n ph i c hs
+outcome n ph b i c ws ps hs (Carry w) = carry n ph c ps w
+outcome n ph b i c ws ps hs Grant = grant n ph i c ps
+outcome n ph b i c ws ps hs GapNext = gap n ph c
+outcome n ph b i c ws ps hs Reset = reset n ph c ws

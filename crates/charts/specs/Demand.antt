@@ -229,9 +229,9 @@ abbrev pub meetsIdle : State → List Action → Bool
 meetsIdle s [] = isIdle (s .phase)
 meetsIdle s (a ∷ l) = isIdle (s .phase) || meetsIdle (step s a .state) l
 
--- "it is idle after at most 18n"
+-- "it is idle after at most 21n + 2"
 abbrev pub bound : ℕ → ℕ
-bound n = 18 * n
+bound n = 21 * n + 2
 
 -- 5. THE CLAIM about a list of action records, played from the fresh bus of n nodes: the state that it leaves, its events, and the book of node i
 abbrev pub final : ℕ → List Action → State
@@ -254,7 +254,7 @@ pub record Demand3 (n : ℕ) (l : List Action) : Type 0 where
   pub honest : (i : ℕ) → i < n → AllHonest (book n l i .confirmed)
   -- "If the bus is not idle, some forward action is open"
   pub opens : isIdle (final n l .phase) ≡ false → (a : Action) × (isForward (final n l) a ≡ true)
-  -- "and however these are chosen, one after the other, it is idle after at most 18n"
+  -- "and however these are chosen, one after the other, it is idle after at most 21n + 2"
   pub ends : (c : List Action) → allForward (final n l) c ≡ true → acceptedOf (final n l) c ≡ bound n → meetsIdle (final n l) c ≡ true
   -- "If it is idle, every node rests"
   pub rests : isIdle (final n l .phase) ≡ true → (i : ℕ) → i < n → final n l .cell i .mode ≡ Rest

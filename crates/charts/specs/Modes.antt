@@ -6,7 +6,7 @@ use lib.Dec.{eqb}
 use Rattle.charts.specs.declared.Seen.the-variants as Sn
 use Rattle.charts.specs.declared.Datum.the-variants as D
 use Rattle.charts.specs.declared.Mode.{Mode}
-use Rattle.charts.specs.declared.Mode.the-variants.{Rest, AwaitAck, AckBody, AckEnd, Opened, Addressed, HeadOwn, HeadAll, BodyOwn, BodyAll, TailOwn, TailAll, Wait, Owed, Sending, Told, Answering, Acking, Holding, Spurious}
+use Rattle.charts.specs.declared.Mode.the-variants.{Rest, AwaitAck, AckBody, AckEnd, Opened, Addressed, HeadOwn, HeadAll, BodyOwn, BodyAll, TailOwn, TailAll, Wait, Owed, Sending, Told, Answering, Acking, Holding, Spurious, Listening}
 
 abbrev pub rest : ℕ
 rest = 0
@@ -77,6 +77,9 @@ holding = 21
 abbrev pub spurious : ℕ
 spurious = 22
 
+abbrev pub listening : ℕ
+listening = 23
+
 abbrev pub placeOf : Mode → ℕ
 placeOf Rest = rest
 placeOf AwaitAck = awaitAck
@@ -101,6 +104,7 @@ placeOf Answering = answering
 placeOf (Acking k a b) = acking
 placeOf Holding = holding
 placeOf Spurious = spurious
+placeOf Listening = listening
 
 abbrev pub isRest : Mode → Bool
 isRest m = eqb (placeOf m) rest
@@ -113,6 +117,9 @@ isTold m = eqb (placeOf m) told
 
 abbrev pub isAnswering : Mode → Bool
 isAnswering m = eqb (placeOf m) answering
+
+abbrev pub isAcking : Mode → Bool
+isAcking m = eqb (placeOf m) acking
 
 abbrev pub isHolding : Mode → Bool
 isHolding m = eqb (placeOf m) holding

@@ -1,4 +1,4 @@
--- "What a node does with a signal": the reception chart, 23 modes (AckEnd, TailOwn and TailAll count as two each) by 14 classes of signals.
+-- "What a node does with a signal": the reception chart, 24 modes (AckEnd, TailOwn and TailAll count as two each) by 14 classes of signals.
 use mathlib.Core.Bool.{true, false, cond}
 use Prim.Native.Nat.{ℕ}
 use lib.Dec.{eqb}
@@ -7,7 +7,7 @@ use Rattle.charts.specs.declared.Seen.the-variants as Sn
 use Rattle.charts.specs.declared.Datum.{Datum}
 use Rattle.charts.specs.declared.Datum.the-variants as D
 use Rattle.charts.specs.declared.Mode.{Mode}
-use Rattle.charts.specs.declared.Mode.the-variants.{Rest, AwaitAck, AckBody, AckEnd, Opened, Addressed, HeadOwn, HeadAll, BodyOwn, BodyAll, TailOwn, TailAll, Wait, Owed, Sending, Told, Answering, Acking, Holding, Spurious}
+use Rattle.charts.specs.declared.Mode.the-variants.{Rest, AwaitAck, AckBody, AckEnd, Opened, Addressed, HeadOwn, HeadAll, BodyOwn, BodyAll, TailOwn, TailAll, Wait, Owed, Sending, Told, Answering, Acking, Holding, Spurious, Listening}
 use Rattle.charts.specs.declared.Signal.{Signal}
 use Rattle.charts.specs.declared.Signal.the-variants.{Ack}
 use Rattle.charts.specs.declared.Report.{Report}
@@ -47,8 +47,9 @@ answer me AwaitAck c s = cond (eqb c S.prefix) (goes AwaitAck) (cond (eqb c S.st
 answer me AckBody c s =
     cond (eqb c S.gap) (tells Rest (Miss me)) (cond (isLine c) (tells Wait (Miss me))
     (cond (eqb c S.ackGood) (goes (AckEnd (Sn.Ack (ackOf s)))) (goes (AckEnd Sn.Nothing))))
--- AckEnd (3RE): End or Prefix after a good Ack: report ack a, Wait; Gap: miss, Rest; else miss, Wait
-answer me (AckEnd (Sn.Ack a)) c s = cond (closes c) (tells Wait (Acked me a)) (falls (Miss me) (Miss me) c)
+-- AckEnd (3RE): End after a good Ack: report ack a, Wait; Gap: miss, Rest; else miss, Wait. Request 1: "From AckEnd, Prefix after a good Ack now reports ack and goes to a new mode Listening"
+answer me (AckEnd (Sn.Ack a)) c s =
+    cond (eqb c S.end) (tells Wait (Acked me a)) (cond (eqb c S.prefix) (tells Listening (Acked me a)) (falls (Miss me) (Miss me) c))
 answer me (AckEnd Sn.Nothing) c s = falls (Miss me) (Miss me) c
 -- Opened (4): Gap → Rest; another line signal → Wait; else → Addressed
 answer me Opened c s = cond (eqb c S.gap) (goes Rest) (cond (isLine c) (goes Wait) (goes Addressed))
@@ -79,6 +80,8 @@ answer me Answering c s = goes Answering
 answer me (Acking k a b) c s = goes (Acking k a b)
 answer me Holding c s = goes Holding
 answer me Spurious c s = goes Spurious
+-- Listening (request 1): "Start → Opened, Prefix stay, Gap → Rest, else Wait"
+answer me Listening c s = cond (eqb c S.start) (goes Opened) (cond (eqb c S.prefix) (goes Listening) (falls Silent Silent c))
 
 -- what node `me` in a mode does with a signal
 unfoldable pub hears : ℕ → Mode → Signal → Heard

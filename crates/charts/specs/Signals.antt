@@ -91,6 +91,9 @@ isStart s = eqb (kindOf s) 0
 abbrev pub isEnd : Signal → Bool
 isEnd s = eqb (kindOf s) 1
 
+abbrev pub isPrefix : Signal → Bool
+isPrefix s = eqb (kindOf s) 2
+
 -- what a Header carries (no other signal is asked for it)
 abbrev pub headOf : Signal → Head
 headOf Start = record { header = 0 }

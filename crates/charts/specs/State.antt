@@ -10,13 +10,15 @@ use Rattle.charts.specs.declared.Buffer.the-variants.{Empty, Full}
 use Rattle.charts.specs.declared.Phase.{Phase}
 use Rattle.charts.specs.declared.Phase.the-variants.{Idle, Busy, Delivering, Granting, Gapping}
 use Rattle.charts.specs.declared.Cell.{Cell}
-use Rattle.charts.specs.declared.Clears.{Clears}
-use Rattle.charts.specs.declared.Clears.the-variants as C
+use Rattle.charts.specs.declared.Marking.{Marking}
+use Rattle.charts.specs.declared.Marking.the-variants as M
 
 -- "The bus is Idle, Busy, Delivering (sender, signal, next receiver), Granting or Gapping (next node). It keeps four marks for each node: won, pending, holder, misled."
+-- "The bus keeps one more mark" (request 1): an acknowledgement was closed by a Prefix, and what its sender puts out next is concatenated to it
 pub record State : Type 0 where
   pub n : ℕ
   pub phase : Phase
+  pub concatenated : Bool
   pub cell : ℕ → Cell
 
 -- a cell with another mode, buffer, packet being sent; with another mark
@@ -100,13 +102,21 @@ isEmpty (Full p) = false
 
 -- the state in another phase and with another cell i
 abbrev pub moved : State → Phase → ℕ → Cell → State
-moved s p i c = record { n = s .n; phase = p; cell = upd (s .cell) i c }
+moved s p i c = record { n = s .n; phase = p; concatenated = s .concatenated; cell = upd (s .cell) i c }
 
--- the state with marks of its nodes cleared; "Records and marks of nodes from n on are neither read nor changed"
-abbrev pub cleared : Clears → State → State
-cleared C.Nothing s = s
-cleared C.Misled s = record { n = s .n; phase = s .phase; cell = λ k. setMisled (s .cell k .misled && not (ltb k (s .n))) (s .cell k) }
-cleared C.Won s = record { n = s .n; phase = s .phase; cell = λ k. setWon (s .cell k .won && not (ltb k (s .n))) (s .cell k) }
+-- the bus's own mark after an action that changes marks
+abbrev pub concatenatedAfter : Marking → Bool → Bool
+concatenatedAfter M.Nothing b = b
+concatenatedAfter M.Misled b = b
+concatenatedAfter M.Won b = b
+concatenatedAfter (M.Concatenated c) b = c
+
+-- the state with marks of its nodes cleared, or with another mark of its own; "Records and marks of nodes from n on are neither read nor changed"
+abbrev pub remarked : Marking → State → State
+remarked M.Nothing s = s
+remarked M.Misled s = record { n = s .n; phase = s .phase; concatenated = s .concatenated; cell = λ k. setMisled (s .cell k .misled && not (ltb k (s .n))) (s .cell k) }
+remarked M.Won s = record { n = s .n; phase = s .phase; concatenated = s .concatenated; cell = λ k. setWon (s .cell k .won && not (ltb k (s .n))) (s .cell k) }
+remarked (M.Concatenated b) s = record { n = s .n; phase = s .phase; concatenated = b; cell = s .cell }
 
 -- "A fresh bus is Idle with no marks, every node in Rest, buffers empty"; the packet being sent is "all 0 on a fresh bus"
 abbrev pub nothing : Packet
@@ -116,4 +126,4 @@ abbrev pub freshCell : Cell
 freshCell = record { mode = Rest; buffer = Empty; sending = nothing; won = false; pending = false; holder = false; misled = false }
 
 abbrev pub fresh : ℕ → State
-fresh n = record { n = n; phase = Idle; cell = λ k. freshCell }
+fresh n = record { n = n; phase = Idle; concatenated = false; cell = λ k. freshCell }

@@ -10,7 +10,7 @@ use Rattle.charts.specs.declared.Action.{Action}
 use Rattle.charts.specs.declared.Decoded.{Decoded}
 use Rattle.charts.specs.declared.Decoded.the-variants.{Refused, Accepted}
 use Rattle.charts.specs.Numbers as N
-use Rattle.charts.specs.State.{State, wons, pendings, holders, moved, cleared, fresh}
+use Rattle.charts.specs.State.{State, wons, pendings, holders, moved, remarked, fresh}
 use Rattle.charts.specs.Actions.{Outcome, closed, does, target, outcome}
 use Rattle.charts.specs.Records.{moveOf, read}
 use Rattle.charts.specs.Valid.{isSize, valid}
@@ -28,14 +28,14 @@ refuses s k = record { number = k; report = Silent; state = s }
 -- the outcome of an action about node i, carried out; an action that is not open is refused by 7
 abbrev pub carryOut : State → ℕ → Outcome → Result
 carryOut s i closed = refuses s N.not-open
-carryOut s i (does r p c x) = record { number = N.accepted; report = r; state = cleared x (moved s p i c) }
+carryOut s i (does r p c x) = record { number = N.accepted; report = r; state = remarked x (moved s p i c) }
 
 -- the node that an action is about, and what it comes to
 abbrev pub about : State → Move → ℕ
 about s m = target (s .n) (s .phase) (pendings (s .cell)) m
 
 abbrev pub comesTo : State → Move → Outcome
-comesTo s m = outcome (s .n) (s .phase) (about s m) (s .cell (about s m)) (wons (s .cell)) (pendings (s .cell)) (holders (s .cell)) m
+comesTo s m = outcome (s .n) (s .phase) (s .concatenated) (about s m) (s .cell (about s m)) (wons (s .cell)) (pendings (s .cell)) (holders (s .cell)) m
 
 unfoldable pub play : State → Move → Result
 play s m = carryOut s (about s m) (comesTo s m)

@@ -30,6 +30,7 @@ unfoldable pub view : Bus → State
 view b = record {
   n = b .n;
   phase = b .phase;
+  concatenated = b .concatenated;
   cell = λ k. cellOf (getD (b .nodes) k freshNode) (mark (b .won) k) (mark (b .pending) k) (mark (b .holder) k) (mark (b .misled) k);
 }
 

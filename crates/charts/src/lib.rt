@@ -47,6 +47,7 @@ pub enum Mode {
     Acking { step: u8, ack: u8, hold: bool },
     Holding,
     Spurious,
+    Listening,
 }
 
 // A signal. The bool of Header, Data and Ack is its check: true for good.
@@ -88,7 +89,8 @@ pub enum Phase {
     Gapping(u8),
 }
 
-// The bus: n nodes, its phase, the nodes' records and four marks for each node.
+// The bus: n nodes, its phase, the nodes' records, four marks for each node and one of its own: an acknowledgement was closed by a Prefix,
+// and what its sender puts out next is concatenated to it.
 pub struct Bus {
     pub n: u8,
     pub phase: Phase,
@@ -97,6 +99,7 @@ pub struct Bus {
     pub pending: [bool; 63],
     pub holder: [bool; 63],
     pub misled: [bool; 63],
+    pub concatenated: bool,
 }
 
 // A node's record with its four marks: all that the bus keeps of one node.
@@ -151,11 +154,13 @@ pub enum Arrival {
     Hears(Signal, bool),
 }
 
-// The marks that an action clears at every node: a Start the misled ones, a reset the won ones.
-pub enum Clears {
+// The marks that an action changes beyond its own node's: a Start clears the misled ones of all nodes, a reset the won ones;
+// the Prefix that closes an acknowledgement sets the bus's own mark, and the Gap that makes the bus Idle clears it.
+pub enum Marking {
     Nothing,
     Misled,
     Won,
+    Concatenated(bool),
 }
 
 // An action record as a run file has it. Bytes 5, 6 and 7 are its three zeros.
