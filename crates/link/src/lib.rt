@@ -80,7 +80,8 @@ pub fn receive(me: u8, mode: Mode, s: Signal) -> Heard
         },
         Mode::AckEnd(seen) => match seen {
             Seen::Ack(a) => match class {
-                1..=2 => tells(Mode::Wait, Report::Acked(me, a)),
+                1 => tells(Mode::Wait, Report::Acked(me, a)),
+                2 => tells(Mode::Listening, Report::Acked(me, a)),
                 3 => tells(Mode::Rest, Report::Miss(me)),
                 _ => tells(Mode::Wait, Report::Miss(me)),
             },
@@ -148,6 +149,12 @@ pub fn receive(me: u8, mode: Mode, s: Signal) -> Heard
         } => goes(mode),
         Mode::Holding => goes(mode),
         Mode::Spurious => goes(mode),
+        Mode::Listening => match class {
+            0 => goes(Mode::Opened),
+            2 => goes(Mode::Listening),
+            3 => goes(Mode::Rest),
+            _ => goes(Mode::Wait),
+        },
     }
 }
 
@@ -181,6 +188,7 @@ pub fn receive_gap(me: u8, mode: Mode) -> Heard
         } => goes(mode),
         Mode::Holding => goes(mode),
         Mode::Spurious => goes(mode),
+        Mode::Listening => goes(Mode::Rest),
     }
 }
 
@@ -267,6 +275,7 @@ pub fn emit(i: u8, mode: Mode, sending: Packet) -> Output
         Mode::Acking { step, ack, hold } => acknowledge(step, ack, hold),
         Mode::Holding => puts(Signal::Prefix, mode),
         Mode::Spurious => Output::Frees,
+        Mode::Listening => Output::Nothing,
     }
 }
 

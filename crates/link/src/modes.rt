@@ -1,12 +1,12 @@
 // Modes: their places in the charts' list, and the mode of a node that is granted the bus.
 ghost use mathlib.Core.Path.{_≡_};
-ghost use Rattle.charts.specs.Modes.{placeOf, isRest, isHolding, isAnswering};
+ghost use Rattle.charts.specs.Modes.{placeOf, isRest, isHolding, isAnswering, isAcking};
 ghost use Rattle.charts.specs.Actions.{granted};
 use charts::Datum;
 use charts::Mode;
 use charts::Seen;
 
-// The place of a mode in document 01's list, the good one of two first.
+// The place of a mode in document 01's list, the good one of two first, new modes last.
 fn place_of(mode: Mode) -> u8
     ensures { λ r. ⌜ r ≡ placeOf mode ⌝ }
 {
@@ -44,6 +44,7 @@ fn place_of(mode: Mode) -> u8
         } => 20,
         Mode::Holding => 21,
         Mode::Spurious => 22,
+        Mode::Listening => 23,
     }
 }
 
@@ -57,6 +58,12 @@ pub fn is_answering(mode: Mode) -> bool
     ensures { λ r. ⌜ r ≡ isAnswering mode ⌝ }
 {
     place_of(mode) == 19
+}
+
+pub fn is_acking(mode: Mode) -> bool
+    ensures { λ r. ⌜ r ≡ isAcking mode ⌝ }
+{
+    place_of(mode) == 20
 }
 
 pub fn is_holding(mode: Mode) -> bool

@@ -1,6 +1,6 @@
 // Signals: the class in which a node meets one, and what each carries.
 ghost use mathlib.Core.Path.{_≡_};
-ghost use Rattle.charts.specs.Signals.{classOf, kindOf, headOf, datumOf, ackOf, isStart, isEnd};
+ghost use Rattle.charts.specs.Signals.{classOf, kindOf, headOf, datumOf, ackOf, isStart, isEnd, isPrefix};
 use charts::Head;
 use charts::Signal;
 
@@ -107,4 +107,10 @@ pub fn is_end(s: Signal) -> bool
     ensures { λ r. ⌜ r ≡ isEnd s ⌝ }
 {
     kind_of(s) == 1
+}
+
+pub fn is_prefix(s: Signal) -> bool
+    ensures { λ r. ⌜ r ≡ isPrefix s ⌝ }
+{
+    kind_of(s) == 2
 }

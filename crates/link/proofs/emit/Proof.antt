@@ -75,6 +75,9 @@ puts-requires-2 c κs = search needs
 enum-told-18 : tie.Need-enum-told-18
 enum-told-18 c = search needs
 
+enum-told-19 : tie.Need-enum-told-19
+enum-told-19 c = search needs
+
 returns : tie.Need-returns
 unfolding output
 returns c = simp (c .enum-told .given .1)
@@ -155,6 +158,10 @@ returns-20 : tie.Need-returns-20
 unfolding output
 returns-20 c = simp (c .enum-told18 .given .1)
 
+returns-21 : tie.Need-returns-21
+unfolding output
+returns-21 c = simp (c .enum-told19 .given .1)
+
 pub emit-spec : {M : Type 1} → statement M
 emit-spec =
     tie.close
@@ -183,6 +190,7 @@ emit-spec =
     enum-told-17
     puts-requires-2
     enum-told-18
+    enum-told-19
     returns
     returns-2
     returns-3
@@ -202,4 +210,5 @@ emit-spec =
     returns-17
     returns-18
     returns-19
-    returns-20)
+    returns-20
+    returns-21)

@@ -65,14 +65,17 @@ tells-requires-6 c κs = search needs
 tells-requires-7 : tie.Need-tells-requires-7
 tells-requires-7 c κs = search needs
 
-enum-told-4 : tie.Need-enum-told-4
-enum-told-4 c = search needs
-
 tells-requires-8 : tie.Need-tells-requires-8
 tells-requires-8 c κs = search needs
 
+enum-told-4 : tie.Need-enum-told-4
+enum-told-4 c = search needs
+
 tells-requires-9 : tie.Need-tells-requires-9
 tells-requires-9 c κs = search needs
+
+tells-requires-10 : tie.Need-tells-requires-10
+tells-requires-10 c κs = search needs
 
 enum-told-5 : tie.Need-enum-told-5
 enum-told-5 c = search needs
@@ -164,8 +167,8 @@ enum-known-mode-4 c = search needs
 told-requires : tie.Need-told-requires
 told-requires c κs = search needs
 
-tells-requires-10 : tie.Need-tells-requires-10
-tells-requires-10 c κs = search needs
+tells-requires-11 : tie.Need-tells-requires-11
+tells-requires-11 c κs = search needs
 
 goes-requires-25 : tie.Need-goes-requires-25
 goes-requires-25 c κs = search needs
@@ -179,8 +182,8 @@ goes-requires-26 c κs = search needs
 broad-requires : tie.Need-broad-requires
 broad-requires c κs = search needs
 
-tells-requires-11 : tie.Need-tells-requires-11
-tells-requires-11 c κs = search needs
+tells-requires-12 : tie.Need-tells-requires-12
+tells-requires-12 c κs = search needs
 
 goes-requires-27 : tie.Need-goes-requires-27
 goes-requires-27 c κs = search needs
@@ -236,6 +239,21 @@ enum-told-16 c = search needs
 goes-requires-36 : tie.Need-goes-requires-36
 goes-requires-36 c κs = search needs
 
+enum-told-17 : tie.Need-enum-told-17
+enum-told-17 c = search needs
+
+goes-requires-37 : tie.Need-goes-requires-37
+goes-requires-37 c κs = search needs
+
+goes-requires-38 : tie.Need-goes-requires-38
+goes-requires-38 c κs = search needs
+
+goes-requires-39 : tie.Need-goes-requires-39
+goes-requires-39 c κs = search needs
+
+goes-requires-40 : tie.Need-goes-requires-40
+goes-requires-40 c κs = search needs
+
 returns : tie.Need-returns
 unfolding hears
 returns c = simp (← c .before .before .before .before .class-of .ensures, c .before .before .enum-told .given .1, c .before .match2 .keys1, c .goes .ensures)
@@ -282,151 +300,171 @@ returns-11 c = simp (← c .before .before .before .before .before .before .befo
 
 returns-12 : tie.Need-returns-12
 unfolding hears
-returns-12 c = simp (← c .before .before .before .before .before .before .before .before .before .before .class-of .ensures, c .before .before .before .before .before .before .before .before .mode .given .1, c .before .before .before .before .before .seen .given .1, ne-eqb _ _ (c .before .before .before .match6 .rest .1), le-ltb _ _ (c .before .before .if2 .left), lt-ltb _ _ (c .before .if3 .taken), c .tells6 .ensures)
+returns-12 c = simp (← c .before .before .before .before .before .before .before .before .class-of .ensures, c .before .before .before .before .before .before .mode .given .1, c .before .before .before .seen .given .1, c .before .match6 .keys2, c .tells6 .ensures)
 
 returns-13 : tie.Need-returns-13
 unfolding hears
-returns-13 c = simp (← c .before .before .before .before .before .before .before .before .before .class-of .ensures, c .before .before .before .before .before .before .before .mode .given .1, c .before .before .before .before .seen .given .1, ne-eqb _ _ (c .before .before .match6 .rest .1), c .tells7 .ensures) (⊎-elim (λ w. simp (lt-ltb _ _ (w .taken), ← c .before .before .before .before .before .before .before .before .before .class-of .ensures, c .before .before .before .before .before .before .before .mode .given .1, c .before .before .before .before .seen .given .1, ne-eqb _ _ (c .before .before .match6 .rest .1), c .tells7 .ensures)) (λ w. simp (le-ltb _ _ (w .0 .left), le-ltb _ _ (w .1 .left), ← c .before .before .before .before .before .before .before .before .before .class-of .ensures, c .before .before .before .before .before .before .before .mode .given .1, c .before .before .before .before .seen .given .1, ne-eqb _ _ (c .before .before .match6 .rest .1), c .tells7 .ensures)) (c .before .if2 .came))
+returns-13 c = simp (← c .before .before .before .before .before .before .before .before .class-of .ensures, c .before .before .before .before .before .before .mode .given .1, c .before .before .before .seen .given .1, c .before .match6 .keys3, c .tells7 .ensures)
 
 returns-14 : tie.Need-returns-14
 unfolding hears
-returns-14 c = simp (← c .before .before .before .before .before .before .before .class-of .ensures, c .before .before .before .before .before .mode .given .1, c .before .before .enum-told4 .given .1, c .before .match7 .keys1, c .tells8 .ensures)
+returns-14 c = simp (← c .before .before .before .before .before .before .before .before .class-of .ensures, c .before .before .before .before .before .before .mode .given .1, c .before .before .before .seen .given .1, ne-eqb _ _ (c .before .match6 .rest .0 .0 .1), ne-eqb _ _ (c .before .match6 .rest .0 .1), ne-eqb _ _ (c .before .match6 .rest .1), c .tells8 .ensures)
 
 returns-15 : tie.Need-returns-15
 unfolding hears
-returns-15 c = simp (← c .before .before .before .before .before .before .before .class-of .ensures, c .before .before .before .before .before .mode .given .1, c .before .before .enum-told4 .given .1, ne-eqb _ _ (c .before .match7 .rest .1), c .tells9 .ensures)
+returns-15 c = simp (← c .before .before .before .before .before .before .before .class-of .ensures, c .before .before .before .before .before .mode .given .1, c .before .before .enum-told4 .given .1, c .before .match7 .keys1, c .tells9 .ensures)
 
 returns-16 : tie.Need-returns-16
 unfolding hears
-returns-16 c = simp (← c .before .before .before .before .class-of .ensures, c .before .before .enum-told5 .given .1, c .before .match8 .keys1, c .goes7 .ensures)
+returns-16 c = simp (← c .before .before .before .before .before .before .before .class-of .ensures, c .before .before .before .before .before .mode .given .1, c .before .before .enum-told4 .given .1, ne-eqb _ _ (c .before .match7 .rest .1), c .tells10 .ensures)
 
 returns-17 : tie.Need-returns-17
 unfolding hears
-returns-17 c = simp (← c .before .before .before .before .before .class-of .ensures, c .before .before .before .enum-told5 .given .1, ne-eqb _ _ (c .before .before .match8 .rest .1), lt-ltb _ _ (c .before .if4 .taken), c .goes8 .ensures)
+returns-17 c = simp (← c .before .before .before .before .class-of .ensures, c .before .before .enum-told5 .given .1, c .before .match8 .keys1, c .goes7 .ensures)
 
 returns-18 : tie.Need-returns-18
 unfolding hears
-returns-18 c = simp (← c .before .before .before .before .before .class-of .ensures, c .before .before .before .enum-told5 .given .1, ne-eqb _ _ (c .before .before .match8 .rest .1), le-ltb _ _ (c .before .if4 .left), c .goes9 .ensures)
+returns-18 c = simp (← c .before .before .before .before .before .class-of .ensures, c .before .before .before .enum-told5 .given .1, ne-eqb _ _ (c .before .before .match8 .rest .1), lt-ltb _ _ (c .before .if2 .taken), c .goes8 .ensures)
 
 returns-19 : tie.Need-returns-19
 unfolding hears
-returns-19 c = simp (← c .before .before .before .class-of .ensures, c .before .enum-told6 .given .1, c .match9 .keys1)
+returns-19 c = simp (← c .before .before .before .before .before .class-of .ensures, c .before .before .before .enum-told5 .given .1, ne-eqb _ _ (c .before .before .match8 .rest .1), le-ltb _ _ (c .before .if2 .left), c .goes9 .ensures)
 
 returns-20 : tie.Need-returns-20
 unfolding hears
-returns-20 c = simp (← c .before .before .before .before .class-of .ensures, c .before .before .enum-told6 .given .1, c .before .match9 .keys2, c .goes10 .ensures)
+returns-20 c = simp (← c .before .before .before .class-of .ensures, c .before .enum-told6 .given .1, c .match9 .keys1)
 
 returns-21 : tie.Need-returns-21
 unfolding hears
-returns-21 c = simp (← c .before .before .before .before .class-of .ensures, c .before .before .enum-told6 .given .1, c .before .match9 .keys3, c .goes11 .ensures)
+returns-21 c = simp (← c .before .before .before .before .class-of .ensures, c .before .before .enum-told6 .given .1, c .before .match9 .keys2, c .goes10 .ensures)
 
 returns-22 : tie.Need-returns-22
 unfolding hears
-returns-22 c = simp (← c .before .before .before .before .class-of .ensures, c .before .before .enum-told6 .given .1, ne-eqb _ _ (c .before .match9 .rest .0 .0 .1), ne-eqb _ _ (c .before .match9 .rest .0 .1), ne-eqb _ _ (c .before .match9 .rest .1), c .goes12 .ensures)
+returns-22 c = simp (← c .before .before .before .before .class-of .ensures, c .before .before .enum-told6 .given .1, c .before .match9 .keys3, c .goes11 .ensures)
 
 returns-23 : tie.Need-returns-23
 unfolding hears
-returns-23 c = simp (← c .before .before .before .before .before .class-of .ensures, c .before .before .before .enum-told7 .given .1, c .before .before .match10 .keys1, c .before .head-of .ensures, c .goes13 .ensures)
+returns-23 c = simp (← c .before .before .before .before .class-of .ensures, c .before .before .enum-told6 .given .1, ne-eqb _ _ (c .before .match9 .rest .0 .0 .1), ne-eqb _ _ (c .before .match9 .rest .0 .1), ne-eqb _ _ (c .before .match9 .rest .1), c .goes12 .ensures)
 
 returns-24 : tie.Need-returns-24
 unfolding hears
-returns-24 c = simp (← c .before .before .before .before .class-of .ensures, c .before .before .enum-told7 .given .1, ne-eqb _ _ (c .before .match10 .rest .1), c .goes14 .ensures)
+returns-24 c = simp (← c .before .before .before .before .before .class-of .ensures, c .before .before .before .enum-told7 .given .1, c .before .before .match10 .keys1, c .before .head-of .ensures, c .goes13 .ensures)
 
 returns-25 : tie.Need-returns-25
 unfolding hears
-returns-25 c = simp (← c .before .before .before .before .before .class-of .ensures, c .before .before .before .enum-told8 .given .1, c .before .before .match11 .keys1, c .before .head-of2 .ensures, c .goes15 .ensures)
+returns-25 c = simp (← c .before .before .before .before .class-of .ensures, c .before .before .enum-told7 .given .1, ne-eqb _ _ (c .before .match10 .rest .1), c .goes14 .ensures)
 
 returns-26 : tie.Need-returns-26
 unfolding hears
-returns-26 c = simp (← c .before .before .before .before .class-of .ensures, c .before .before .enum-told8 .given .1, c .before .match11 .keys2, c .goes16 .ensures)
+returns-26 c = simp (← c .before .before .before .before .before .class-of .ensures, c .before .before .before .enum-told8 .given .1, c .before .before .match11 .keys1, c .before .head-of2 .ensures, c .goes15 .ensures)
 
 returns-27 : tie.Need-returns-27
 unfolding hears
-returns-27 c = simp (← c .before .before .before .before .class-of .ensures, c .before .before .enum-told8 .given .1, ne-eqb _ _ (c .before .match11 .rest .0 .1), ne-eqb _ _ (c .before .match11 .rest .1), c .goes17 .ensures)
+returns-27 c = simp (← c .before .before .before .before .class-of .ensures, c .before .before .enum-told8 .given .1, c .before .match11 .keys2, c .goes16 .ensures)
 
 returns-28 : tie.Need-returns-28
 unfolding hears
-returns-28 c = simp (← c .before .before .before .before .before .before .class-of .ensures, c .before .before .before .before .mode2 .given .1, c .before .before .match12 .keys1, c .before .datum-of .ensures, c .goes18 .ensures)
+returns-28 c = simp (← c .before .before .before .before .class-of .ensures, c .before .before .enum-told8 .given .1, ne-eqb _ _ (c .before .match11 .rest .0 .1), ne-eqb _ _ (c .before .match11 .rest .1), c .goes17 .ensures)
 
 returns-29 : tie.Need-returns-29
 unfolding hears
-returns-29 c = simp (← c .before .before .before .before .before .class-of .ensures, c .before .before .before .mode2 .given .1, c .before .match12 .keys2, c .goes19 .ensures)
+returns-29 c = simp (← c .before .before .before .before .before .before .class-of .ensures, c .before .before .before .before .mode2 .given .1, c .before .before .match12 .keys1, c .before .datum-of .ensures, c .goes18 .ensures)
 
 returns-30 : tie.Need-returns-30
 unfolding hears
-returns-30 c = simp (← c .before .before .before .before .before .class-of .ensures, c .before .before .before .mode2 .given .1, ne-eqb _ _ (c .before .match12 .rest .0 .1), ne-eqb _ _ (c .before .match12 .rest .1), c .goes20 .ensures)
+returns-30 c = simp (← c .before .before .before .before .before .class-of .ensures, c .before .before .before .mode2 .given .1, c .before .match12 .keys2, c .goes19 .ensures)
 
 returns-31 : tie.Need-returns-31
 unfolding hears
-returns-31 c = simp (← c .before .before .before .before .before .before .class-of .ensures, c .before .before .before .before .mode3 .given .1, c .before .before .match13 .keys1, c .before .datum-of2 .ensures, c .goes21 .ensures)
+returns-31 c = simp (← c .before .before .before .before .before .class-of .ensures, c .before .before .before .mode2 .given .1, ne-eqb _ _ (c .before .match12 .rest .0 .1), ne-eqb _ _ (c .before .match12 .rest .1), c .goes20 .ensures)
 
 returns-32 : tie.Need-returns-32
 unfolding hears
-returns-32 c = simp (← c .before .before .before .before .before .class-of .ensures, c .before .before .before .mode3 .given .1, c .before .match13 .keys2, c .goes22 .ensures)
+returns-32 c = simp (← c .before .before .before .before .before .before .class-of .ensures, c .before .before .before .before .mode3 .given .1, c .before .before .match13 .keys1, c .before .datum-of2 .ensures, c .goes21 .ensures)
 
 returns-33 : tie.Need-returns-33
 unfolding hears
-returns-33 c = simp (← c .before .before .before .before .before .class-of .ensures, c .before .before .before .mode3 .given .1, c .before .match13 .keys3, c .goes23 .ensures)
+returns-33 c = simp (← c .before .before .before .before .before .class-of .ensures, c .before .before .before .mode3 .given .1, c .before .match13 .keys2, c .goes22 .ensures)
 
 returns-34 : tie.Need-returns-34
 unfolding hears
-returns-34 c = simp (← c .before .before .before .before .before .class-of .ensures, c .before .before .before .mode3 .given .1, ne-eqb _ _ (c .before .match13 .rest .0 .0 .1), ne-eqb _ _ (c .before .match13 .rest .0 .1), ne-eqb _ _ (c .before .match13 .rest .1), c .goes24 .ensures)
+returns-34 c = simp (← c .before .before .before .before .before .class-of .ensures, c .before .before .before .mode3 .given .1, c .before .match13 .keys3, c .goes23 .ensures)
 
 returns-35 : tie.Need-returns-35
 unfolding hears
-returns-35 c = simp (← c .before .before .before .before .before .before .before .class-of .ensures, c .before .before .before .before .before .mode4 .given .1, le-ltb _ _ (c .before .before .before .if5 .left), lt-ltb _ _ (c .before .before .if6 .taken), c .before .told .ensures, c .tells10 .ensures)
+returns-35 c = simp (← c .before .before .before .before .before .class-of .ensures, c .before .before .before .mode3 .given .1, ne-eqb _ _ (c .before .match13 .rest .0 .0 .1), ne-eqb _ _ (c .before .match13 .rest .0 .1), ne-eqb _ _ (c .before .match13 .rest .1), c .goes24 .ensures)
 
 returns-36 : tie.Need-returns-36
 unfolding hears
-returns-36 c = simp (← c .before .before .before .before .before .class-of .ensures, c .before .before .before .mode4 .given .1, c .goes25 .ensures) (⊎-elim (λ w. simp (lt-ltb _ _ (w .taken), ← c .before .before .before .before .before .class-of .ensures, c .before .before .before .mode4 .given .1, c .goes25 .ensures)) (λ w. simp (le-ltb _ _ (w .0 .left), le-ltb _ _ (w .1 .left), ← c .before .before .before .before .before .class-of .ensures, c .before .before .before .mode4 .given .1, c .goes25 .ensures)) (c .before .if5 .came))
+returns-36 c = simp (← c .before .before .before .before .before .before .before .class-of .ensures, c .before .before .before .before .before .mode4 .given .1, le-ltb _ _ (c .before .before .before .if3 .left), lt-ltb _ _ (c .before .before .if4 .taken), c .before .told .ensures, c .tells11 .ensures)
 
 returns-37 : tie.Need-returns-37
 unfolding hears
-returns-37 c = simp (← c .before .before .before .before .before .class-of .ensures, c .before .before .before .mode5 .given .1, c .before .match14 .keys1, c .goes26 .ensures)
+returns-37 c = simp (← c .before .before .before .before .before .class-of .ensures, c .before .before .before .mode4 .given .1, c .goes25 .ensures) (⊎-elim (λ w. simp (lt-ltb _ _ (w .taken), ← c .before .before .before .before .before .class-of .ensures, c .before .before .before .mode4 .given .1, c .goes25 .ensures)) (λ w. simp (le-ltb _ _ (w .0 .left), le-ltb _ _ (w .1 .left), ← c .before .before .before .before .before .class-of .ensures, c .before .before .before .mode4 .given .1, c .goes25 .ensures)) (c .before .if3 .came))
 
 returns-38 : tie.Need-returns-38
 unfolding hears
-returns-38 c = simp (← c .before .before .before .before .before .before .before .before .class-of .ensures, c .before .before .before .before .before .before .mode5 .given .1, ne-eqb _ _ (c .before .before .before .before .match14 .rest .1), le-ltb _ _ (c .before .before .before .if7 .left), lt-ltb _ _ (c .before .before .if8 .taken), c .before .broad .ensures, c .tells11 .ensures)
+returns-38 c = simp (← c .before .before .before .before .before .class-of .ensures, c .before .before .before .mode5 .given .1, c .before .match14 .keys1, c .goes26 .ensures)
 
 returns-39 : tie.Need-returns-39
 unfolding hears
-returns-39 c = simp (← c .before .before .before .before .before .before .class-of .ensures, c .before .before .before .before .mode5 .given .1, ne-eqb _ _ (c .before .before .match14 .rest .1), c .goes27 .ensures) (⊎-elim (λ w. simp (lt-ltb _ _ (w .taken), ← c .before .before .before .before .before .before .class-of .ensures, c .before .before .before .before .mode5 .given .1, ne-eqb _ _ (c .before .before .match14 .rest .1), c .goes27 .ensures)) (λ w. simp (le-ltb _ _ (w .0 .left), le-ltb _ _ (w .1 .left), ← c .before .before .before .before .before .before .class-of .ensures, c .before .before .before .before .mode5 .given .1, ne-eqb _ _ (c .before .before .match14 .rest .1), c .goes27 .ensures)) (c .before .if7 .came))
+returns-39 c = simp (← c .before .before .before .before .before .before .before .before .class-of .ensures, c .before .before .before .before .before .before .mode5 .given .1, ne-eqb _ _ (c .before .before .before .before .match14 .rest .1), le-ltb _ _ (c .before .before .before .if5 .left), lt-ltb _ _ (c .before .before .if6 .taken), c .before .broad .ensures, c .tells12 .ensures)
 
 returns-40 : tie.Need-returns-40
 unfolding hears
-returns-40 c = simp (← c .before .before .before .before .class-of .ensures, c .before .before .enum-told9 .given .1, c .before .match15 .keys1, c .goes28 .ensures)
+returns-40 c = simp (← c .before .before .before .before .before .before .class-of .ensures, c .before .before .before .before .mode5 .given .1, ne-eqb _ _ (c .before .before .match14 .rest .1), c .goes27 .ensures) (⊎-elim (λ w. simp (lt-ltb _ _ (w .taken), ← c .before .before .before .before .before .before .class-of .ensures, c .before .before .before .before .mode5 .given .1, ne-eqb _ _ (c .before .before .match14 .rest .1), c .goes27 .ensures)) (λ w. simp (le-ltb _ _ (w .0 .left), le-ltb _ _ (w .1 .left), ← c .before .before .before .before .before .before .class-of .ensures, c .before .before .before .before .mode5 .given .1, ne-eqb _ _ (c .before .before .match14 .rest .1), c .goes27 .ensures)) (c .before .if5 .came))
 
 returns-41 : tie.Need-returns-41
 unfolding hears
-returns-41 c = simp (← c .before .before .before .before .class-of .ensures, c .before .before .enum-told9 .given .1, ne-eqb _ _ (c .before .match15 .rest .1), c .goes29 .ensures)
+returns-41 c = simp (← c .before .before .before .before .class-of .ensures, c .before .before .enum-told9 .given .1, c .before .match15 .keys1, c .goes28 .ensures)
 
 returns-42 : tie.Need-returns-42
 unfolding hears
-returns-42 c = simp (← c .before .before .before .class-of .ensures, c .before .enum-told10 .given .1, c .goes30 .ensures)
+returns-42 c = simp (← c .before .before .before .before .class-of .ensures, c .before .before .enum-told9 .given .1, ne-eqb _ _ (c .before .match15 .rest .1), c .goes29 .ensures)
 
 returns-43 : tie.Need-returns-43
 unfolding hears
-returns-43 c = simp (← c .before .before .before .class-of .ensures, c .before .enum-told11 .given .1, c .goes31 .ensures)
+returns-43 c = simp (← c .before .before .before .class-of .ensures, c .before .enum-told10 .given .1, c .goes30 .ensures)
 
 returns-44 : tie.Need-returns-44
 unfolding hears
-returns-44 c = simp (← c .before .before .before .class-of .ensures, c .before .enum-told12 .given .1, c .goes32 .ensures)
+returns-44 c = simp (← c .before .before .before .class-of .ensures, c .before .enum-told11 .given .1, c .goes31 .ensures)
 
 returns-45 : tie.Need-returns-45
 unfolding hears
-returns-45 c = simp (← c .before .before .before .class-of .ensures, c .before .enum-told13 .given .1, c .goes33 .ensures)
+returns-45 c = simp (← c .before .before .before .class-of .ensures, c .before .enum-told12 .given .1, c .goes32 .ensures)
 
 returns-46 : tie.Need-returns-46
 unfolding hears
-returns-46 c = simp (← c .before .before .before .class-of .ensures, c .before .enum-told14 .given .1, c .goes34 .ensures)
+returns-46 c = simp (← c .before .before .before .class-of .ensures, c .before .enum-told13 .given .1, c .goes33 .ensures)
 
 returns-47 : tie.Need-returns-47
 unfolding hears
-returns-47 c = simp (← c .before .before .before .class-of .ensures, c .before .enum-told15 .given .1, c .goes35 .ensures)
+returns-47 c = simp (← c .before .before .before .class-of .ensures, c .before .enum-told14 .given .1, c .goes34 .ensures)
 
 returns-48 : tie.Need-returns-48
 unfolding hears
-returns-48 c = simp (← c .before .before .before .class-of .ensures, c .before .enum-told16 .given .1, c .goes36 .ensures)
+returns-48 c = simp (← c .before .before .before .class-of .ensures, c .before .enum-told15 .given .1, c .goes35 .ensures)
+
+returns-49 : tie.Need-returns-49
+unfolding hears
+returns-49 c = simp (← c .before .before .before .class-of .ensures, c .before .enum-told16 .given .1, c .goes36 .ensures)
+
+returns-50 : tie.Need-returns-50
+unfolding hears
+returns-50 c = simp (← c .before .before .before .before .class-of .ensures, c .before .before .enum-told17 .given .1, c .before .match16 .keys1, c .goes37 .ensures)
+
+returns-51 : tie.Need-returns-51
+unfolding hears
+returns-51 c = simp (← c .before .before .before .before .class-of .ensures, c .before .before .enum-told17 .given .1, c .before .match16 .keys2, c .goes38 .ensures)
+
+returns-52 : tie.Need-returns-52
+unfolding hears
+returns-52 c = simp (← c .before .before .before .before .class-of .ensures, c .before .before .enum-told17 .given .1, c .before .match16 .keys3, c .goes39 .ensures)
+
+returns-53 : tie.Need-returns-53
+unfolding hears
+returns-53 c = simp (← c .before .before .before .before .class-of .ensures, c .before .before .enum-told17 .given .1, ne-eqb _ _ (c .before .match16 .rest .0 .0 .1), ne-eqb _ _ (c .before .match16 .rest .0 .1), ne-eqb _ _ (c .before .match16 .rest .1), c .goes40 .ensures)
 
 pub receive-spec : {M : Type 1} → statement M
 receive-spec =
@@ -452,9 +490,10 @@ receive-spec =
     tells-requires-5
     tells-requires-6
     tells-requires-7
-    enum-told-4
     tells-requires-8
+    enum-told-4
     tells-requires-9
+    tells-requires-10
     enum-told-5
     goes-requires-7
     goes-requires-8
@@ -485,12 +524,12 @@ receive-spec =
     goes-requires-24
     enum-known-mode-4
     told-requires
-    tells-requires-10
+    tells-requires-11
     goes-requires-25
     enum-known-mode-5
     goes-requires-26
     broad-requires
-    tells-requires-11
+    tells-requires-12
     goes-requires-27
     enum-told-9
     goes-requires-28
@@ -509,6 +548,11 @@ receive-spec =
     goes-requires-35
     enum-told-16
     goes-requires-36
+    enum-told-17
+    goes-requires-37
+    goes-requires-38
+    goes-requires-39
+    goes-requires-40
     returns
     returns-2
     returns-3
@@ -556,4 +600,9 @@ receive-spec =
     returns-45
     returns-46
     returns-47
-    returns-48)
+    returns-48
+    returns-49
+    returns-50
+    returns-51
+    returns-52
+    returns-53)

@@ -137,6 +137,12 @@ enum-told-20 c = search needs
 goes-requires-17 : tie.Need-goes-requires-17
 goes-requires-17 c κs = search needs
 
+enum-told-21 : tie.Need-enum-told-21
+enum-told-21 c = search needs
+
+goes-requires-18 : tie.Need-goes-requires-18
+goes-requires-18 c κs = search needs
+
 returns : tie.Need-returns
 unfolding hears
 returns c = simp (c .before .enum-told .given .1, c .goes .ensures)
@@ -216,6 +222,10 @@ returns-20 : tie.Need-returns-20
 unfolding hears
 returns-20 c = simp (c .before .enum-told20 .given .1, c .goes17 .ensures)
 
+returns-21 : tie.Need-returns-21
+unfolding hears
+returns-21 c = simp (c .before .enum-told21 .given .1, c .goes18 .ensures)
+
 pub receive-gap-spec : {M : Type 1} → statement M
 receive-gap-spec =
     tie.close
@@ -260,6 +270,8 @@ receive-gap-spec =
     goes-requires-16
     enum-told-20
     goes-requires-17
+    enum-told-21
+    goes-requires-18
     returns
     returns-2
     returns-3
@@ -279,4 +291,5 @@ receive-gap-spec =
     returns-17
     returns-18
     returns-19
-    returns-20)
+    returns-20
+    returns-21)

@@ -80,6 +80,9 @@ enum-told-22 c = search needs
 enum-told-23 : tie.Need-enum-told-23
 enum-told-23 c = search needs
 
+enum-told-24 : tie.Need-enum-told-24
+enum-told-24 c = search needs
+
 returns : tie.Need-returns
 returns c = simp (c .enum-told .given .1)
 
@@ -149,6 +152,9 @@ returns-22 c = simp (c .enum-told22 .given .1)
 returns-23 : tie.Need-returns-23
 returns-23 c = simp (c .enum-told23 .given .1)
 
+returns-24 : tie.Need-returns-24
+returns-24 c = simp (c .enum-told24 .given .1)
+
 pub place-of-spec : {M : Type 1} → statement M
 place-of-spec =
     tie.close
@@ -179,6 +185,7 @@ place-of-spec =
     enum-told-21
     enum-told-22
     enum-told-23
+    enum-told-24
     returns
     returns-2
     returns-3
@@ -201,4 +208,5 @@ place-of-spec =
     returns-20
     returns-21
     returns-22
-    returns-23)
+    returns-23
+    returns-24)
