@@ -12,10 +12,11 @@ use Rattle.charts.specs.declared.Bus.{Bus}
 use Rattle.charts.specs.declared.Cell.{Cell}
 use Rattle.charts.specs.declared.Phase.{Phase}
 use Rattle.charts.specs.declared.Action.{Action}
-use Rattle.charts.specs.declared.Clears.{Clears}
-use Rattle.charts.specs.declared.Clears.the-variants as C
+use Rattle.charts.specs.declared.Marking.{Marking}
+use Rattle.charts.specs.declared.Marking.the-variants as M
 use Rattle.charts.specs.declared.Decoded.{Decoded}
 use Rattle.charts.specs.declared.Decoded.the-variants.{Refused, Accepted}
+use Rattle.charts.specs.State.{concatenatedAfter}
 use Rattle.charts.specs.Step.{stepWith}
 use Rattle.charts.specs.View.{view, cellOf, mark, freshNode, Sized}
 use Rattle.bus.specs.declared.plans.Plan.{Plan}
@@ -26,35 +27,36 @@ use Rattle.bus.proofs.ReadLaws.{clearing-fits}
 use Rattle.bus.proofs.ViewLaws.{view-n, view-phase, stored, resultOf, carried}
 
 -- what passes 12 is planned
-tried-ready : (n : ℕ) (p : Phase) (i : ℕ) (c : Cell) (ws ps hs : ℕ → Bool) (d : Decoded) → Ready n p ps d → i < 63 → tried n p i c ws ps hs d ≡ planned n p i c ws ps hs d
-tried-ready n p i c ws ps hs (Refused k) r h = refl
-tried-ready n p i c ws ps hs (Accepted m) r h = rw (lt-ltb n 64 (let s = r .size in omega arith), r .stage, lt-ltb i 63 h)
+tried-ready : (n : ℕ) (p : Phase) (b : Bool) (i : ℕ) (c : Cell) (ws ps hs : ℕ → Bool) (d : Decoded) → Ready n p ps d → i < 63 → tried n p b i c ws ps hs d ≡ planned n p b i c ws ps hs d
+tried-ready n p b i c ws ps hs (Refused k) r h = refl
+tried-ready n p b i c ws ps hs (Accepted m) r h = rw (lt-ltb n 64 (let s = r .size in omega arith), r .stage, lt-ltb i 63 h)
 
 module _ (b : Bus) (d : Decoded) (i : ℕ) (c : Cell) (p : Plan) (size : Sized b) (ready : Ready (b .n) (b .phase) (mark (b .pending)) d) (l : i < 63)
     (is-aim : i ≡ aimed (b .n) (b .phase) (mark (b .pending)) d)
     (is-cell : c ≡ cellOf (getD (b .nodes) i freshNode) (mark (b .won) i) (mark (b .pending) i) (mark (b .holder) i) (mark (b .misled) i))
-    (is-plan : p ≡ tried (b .n) (b .phase) i c (mark (b .won)) (mark (b .pending)) (mark (b .holder)) d) where
-  plan-is : p ≡ planned (b .n) (b .phase) i c (mark (b .won)) (mark (b .pending)) (mark (b .holder)) d
-  plan-is = is-plan ∙ tried-ready (b .n) (b .phase) i c (mark (b .won)) (mark (b .pending)) (mark (b .holder)) d ready l
+    (is-plan : p ≡ tried (b .n) (b .phase) (b .concatenated) i c (mark (b .won)) (mark (b .pending)) (mark (b .holder)) d) where
+  plan-is : p ≡ planned (b .n) (b .phase) (b .concatenated) i c (mark (b .won)) (mark (b .pending)) (mark (b .holder)) d
+  plan-is = is-plan ∙ tried-ready (b .n) (b .phase) (b .concatenated) i c (mark (b .won)) (mark (b .pending)) (mark (b .holder)) d ready l
 
   -- a plan that clears marks is one for at most 63 nodes
-  clears-fit : (f : Clears → Bool) → f C.Nothing ≡ false → (o : Bool) → o ≡ f (p .clears) → (o && ltb (b .n) 64) ≡ f (p .clears)
+  clears-fit : (f : Marking → Bool) → f M.Nothing ≡ false → (o : Bool) → o ≡ f (p .marking) → (o && ltb (b .n) 64) ≡ f (p .marking)
   clears-fit f z o e = go o e
     where
-      go : (q : Bool) → q ≡ f (p .clears) → (q && ltb (b .n) 64) ≡ f (p .clears)
+      go : (q : Bool) → q ≡ f (p .marking) → (q && ltb (b .n) 64) ≡ f (p .marking)
       go true g = let s = clearing-fits f z b d i c p ready plan-is (sym g) in lt-ltb (b .n) 64 (omega arith) ∙ g
       go false g = g
 
-  -- v, w and m are what is then stored of the node, and the marks won and misled once `x` and `y` have asked to clear them
-  pub carries : (v : Node) (w m : List Bool) (x y : Bool) → v ≡ record { mode = p .cell .mode; buffer = p .cell .buffer; sending = p .cell .sending } →
-      x ≡ clearsWon (p .clears) → mark w ≡ unmarked (x && ltb (b .n) 64) (b .n) (mark (set (b .won) i (p .cell .won))) →
-      y ≡ clearsMisled (p .clears) → mark m ≡ unmarked (y && ltb (b .n) 64) (b .n) (mark (set (b .misled) i (p .cell .misled))) →
-      resultOf p (view (record { n = b .n; phase = p .phase; nodes = set (b .nodes) i v; won = w; pending = set (b .pending) i (p .cell .pending); holder = set (b .holder) i (p .cell .holder); misled = m }))
+  -- v, w and m are what is then stored of the node, and the marks won and misled once `x` and `y` have asked to clear them; o is the bus's own mark
+  pub carries : (v : Node) (w m : List Bool) (x y o : Bool) → v ≡ record { mode = p .cell .mode; buffer = p .cell .buffer; sending = p .cell .sending } →
+      x ≡ clearsWon (p .marking) → mark w ≡ unmarked (x && ltb (b .n) 64) (b .n) (mark (set (b .won) i (p .cell .won))) →
+      y ≡ clearsMisled (p .marking) → mark m ≡ unmarked (y && ltb (b .n) 64) (b .n) (mark (set (b .misled) i (p .cell .misled))) →
+      o ≡ concatenatedAfter (p .marking) (b .concatenated) →
+      resultOf p (view (record { n = b .n; phase = p .phase; nodes = set (b .nodes) i v; won = w; pending = set (b .pending) i (p .cell .pending); holder = set (b .holder) i (p .cell .holder); misled = m; concatenated = o }))
       ≡ stepWith (view b) d
-  carries v w m x y ev ex ew ey em =
-      ap (resultOf p) (stored b (p .phase) i (p .cell) (p .clears) v w m size l ev
+  carries v w m x y o ev ex ew ey em eo =
+      ap (resultOf p) (stored b (p .phase) i (p .cell) (p .marking) v w m o size l ev
       (ew ∙ ap (λ o. unmarked o (b .n) (mark (set (b .won) i (p .cell .won)))) (clears-fit clearsWon refl x ex))
-      (em ∙ ap (λ o. unmarked o (b .n) (mark (set (b .misled) i (p .cell .misled)))) (clears-fit clearsMisled refl y ey)))
+      (em ∙ ap (λ o. unmarked o (b .n) (mark (set (b .misled) i (p .cell .misled)))) (clears-fit clearsMisled refl y ey)) eo)
       ∙ carried b d i c p is-aim is-cell plan-is
 
 -- of a record that was looked at as `advance` looks at it

@@ -10,8 +10,8 @@ use Rattle.charts.specs.declared.Move.{Move}
 use Rattle.charts.specs.declared.Move.the-variants.{Request, Arbitrate, Respond, Clock, Carry, Grant, GapNext, Reset}
 use Rattle.charts.specs.declared.Action.{Action}
 use Rattle.charts.specs.declared.Cell.{Cell}
-use Rattle.charts.specs.declared.Clears.{Clears}
-use Rattle.charts.specs.declared.Clears.the-variants as C
+use Rattle.charts.specs.declared.Marking.{Marking}
+use Rattle.charts.specs.declared.Marking.the-variants as M
 use Rattle.charts.specs.declared.Decoded.{Decoded}
 use Rattle.charts.specs.declared.Decoded.the-variants.{Refused, Accepted}
 use Rattle.charts.specs.declared.Bus.{Bus}
@@ -81,7 +81,7 @@ unfolding look view valid
 ready-look b a = ready-if (b .n) (b .phase) (mark (b .pending)) a (valid (view b)) _ (regroup (isSize (b .n)) (phaseFits (b .n) (b .phase)) _)
 
 -- only an accepted record clears marks
-pub clearing-fits : (f : Clears → Bool) → f C.Nothing ≡ false → (b : Bus) (d : Decoded) (i : ℕ) (c : Cell) (p : Plan) → Ready (b .n) (b .phase) (mark (b .pending)) d →
-    p ≡ planned (b .n) (b .phase) i c (mark (b .won)) (mark (b .pending)) (mark (b .holder)) d → f (p .clears) ≡ true → b .n ≤ 63
+pub clearing-fits : (f : Marking → Bool) → f M.Nothing ≡ false → (b : Bus) (d : Decoded) (i : ℕ) (c : Cell) (p : Plan) → Ready (b .n) (b .phase) (mark (b .pending)) d →
+    p ≡ planned (b .n) (b .phase) (b .concatenated) i c (mark (b .won)) (mark (b .pending)) (mark (b .holder)) d → f (p .marking) ≡ true → b .n ≤ 63
 clearing-fits f o b (Refused k) i c p r q e = let z : _≡_ {A = ℕ} 0 1 = cc in omega arith
 clearing-fits f o b (Accepted m) i c p r q e = r .size

@@ -12,12 +12,12 @@ use Rattle.charts.specs.declared.Bus.{Bus}
 use Rattle.charts.specs.declared.Cell.{Cell}
 use Rattle.charts.specs.declared.Phase.{Phase}
 use Rattle.charts.specs.declared.Phase.the-variants.{Idle}
-use Rattle.charts.specs.declared.Clears.{Clears}
-use Rattle.charts.specs.declared.Clears.the-variants as C
+use Rattle.charts.specs.declared.Marking.{Marking}
+use Rattle.charts.specs.declared.Marking.the-variants as M
 use Rattle.charts.specs.declared.Decoded.{Decoded}
 use Rattle.charts.specs.declared.Decoded.the-variants.{Refused, Accepted}
 use Rattle.charts.specs.Actions.{Outcome, closed, does}
-use Rattle.charts.specs.State.{State, upd, moved, cleared, wons, pendings, holders, fresh, freshCell}
+use Rattle.charts.specs.State.{State, upd, moved, concatenatedAfter, remarked, wons, pendings, holders, fresh, freshCell}
 use Rattle.charts.specs.Step.{Result, play, stepWith, carryOut, about, comesTo}
 use Rattle.charts.specs.View.{view, cellOf, mark, freshNode, Sized}
 use Rattle.bus.specs.declared.plans.Plan.{Plan}
@@ -44,9 +44,9 @@ blank-at (suc n) (suc k) a = blank-at n k a
 
 -- arrays of fresh nodes and of no marks are the fresh bus
 pub fresh-view : (m n : ℕ) →
-    view (record { n = n; phase = Idle; nodes = replicate m freshNode; won = replicate m false; pending = replicate m false; holder = replicate m false; misled = replicate m false }) ≡ fresh n
+    view (record { n = n; phase = Idle; nodes = replicate m freshNode; won = replicate m false; pending = replicate m false; holder = replicate m false; misled = replicate m false; concatenated = false }) ≡ fresh n
 unfolding view
-fresh-view m n = λ t. record { n = n; phase = Idle; cell = fun-ext cells t }
+fresh-view m n = λ t. record { n = n; phase = Idle; concatenated = false; cell = fun-ext cells t }
   where
     cells : (k : ℕ) → cellOf (getD (replicate m freshNode) k freshNode) (mark (replicate m false) k) (mark (replicate m false) k) (mark (replicate m false) k) (mark (replicate m false) k) ≡ freshCell
     cells k = rw (blank-at m k freshNode, blank-at m k false)
@@ -54,14 +54,15 @@ fresh-view m n = λ t. record { n = n; phase = Idle; cell = fun-ext cells t }
 abbrev nodeOf : Cell → Node
 nodeOf c = record { mode = c .mode; buffer = c .buffer; sending = c .sending }
 
--- one cell stored, and the marks w and m of all nodes cleared or not
-pub stored : (b : Bus) (p : Phase) (i : ℕ) (c : Cell) (x : Clears) (v : Node) (w m : List Bool) → Sized b → i < 63 → v ≡ nodeOf c →
+-- one cell stored, the marks w and m of all nodes cleared or not, and o the bus's own mark
+pub stored : (b : Bus) (p : Phase) (i : ℕ) (c : Cell) (x : Marking) (v : Node) (w m : List Bool) (o : Bool) → Sized b → i < 63 → v ≡ nodeOf c →
     mark w ≡ unmarked (clearsWon x) (b .n) (mark (set (b .won) i (c .won))) →
     mark m ≡ unmarked (clearsMisled x) (b .n) (mark (set (b .misled) i (c .misled))) →
-    view (record { n = b .n; phase = p; nodes = set (b .nodes) i v; won = w; pending = set (b .pending) i (c .pending); holder = set (b .holder) i (c .holder); misled = m })
-    ≡ cleared x (moved (view b) p i c)
+    o ≡ concatenatedAfter x (b .concatenated) →
+    view (record { n = b .n; phase = p; nodes = set (b .nodes) i v; won = w; pending = set (b .pending) i (c .pending); holder = set (b .holder) i (c .holder); misled = m; concatenated = o })
+    ≡ remarked x (moved (view b) p i c)
 unfolding view
-stored b p i c x v w m z l ev ew em = by x ew em
+stored b p i c x v w m o z l ev ew em eo = by x ew em eo
   where
     in-it : {A : Type 0} (k : List A) → length k ≡ 63 → i < length k
     in-it k e = omega arith
@@ -90,17 +91,19 @@ stored b p i c x v w m z l ev ew em = by x ew em
     marks : (k : ℕ) → Bool → Bool → Cell
     marks k = λ q r. cellOf (getD (set (b .nodes) i v) k freshNode) q (getD (set (b .pending) i (c .pending)) k false) (getD (set (b .holder) i (c .holder)) k false) r
 
-    by : (x : Clears) → mark w ≡ unmarked (clearsWon x) (b .n) (mark (set (b .won) i (c .won))) →
+    by : (x : Marking) → mark w ≡ unmarked (clearsWon x) (b .n) (mark (set (b .won) i (c .won))) →
         mark m ≡ unmarked (clearsMisled x) (b .n) (mark (set (b .misled) i (c .misled))) →
-        view (record { n = b .n; phase = p; nodes = set (b .nodes) i v; won = w; pending = set (b .pending) i (c .pending); holder = set (b .holder) i (c .holder); misled = m })
-        ≡ cleared x (moved (view b) p i c)
-    by C.Nothing ew em = λ t. record { n = b .n; phase = p; cell = fun-ext (λ k. (λ t. marks k (ew t k) (em t k)) ∙ at (λ q. q) (λ q. q) k) t }
-    by C.Misled ew em = λ t. record { n = b .n; phase = p; cell = fun-ext (λ k. (λ t. marks k (ew t k) (em t k)) ∙ at (λ q. q) (λ q. q && not (ltb k (b .n))) k) t }
-    by C.Won ew em = λ t. record { n = b .n; phase = p; cell = fun-ext (λ k. (λ t. marks k (ew t k) (em t k)) ∙ at (λ q. q && not (ltb k (b .n))) (λ q. q) k) t }
+        o ≡ concatenatedAfter x (b .concatenated) →
+        view (record { n = b .n; phase = p; nodes = set (b .nodes) i v; won = w; pending = set (b .pending) i (c .pending); holder = set (b .holder) i (c .holder); misled = m; concatenated = o })
+        ≡ remarked x (moved (view b) p i c)
+    by M.Nothing ew em eo = λ t. record { n = b .n; phase = p; concatenated = eo t; cell = fun-ext (λ k. (λ t. marks k (ew t k) (em t k)) ∙ at (λ q. q) (λ q. q) k) t }
+    by M.Misled ew em eo = λ t. record { n = b .n; phase = p; concatenated = eo t; cell = fun-ext (λ k. (λ t. marks k (ew t k) (em t k)) ∙ at (λ q. q) (λ q. q && not (ltb k (b .n))) k) t }
+    by M.Won ew em eo = λ t. record { n = b .n; phase = p; concatenated = eo t; cell = fun-ext (λ k. (λ t. marks k (ew t k) (em t k)) ∙ at (λ q. q && not (ltb k (b .n))) (λ q. q) k) t }
+    by (M.Concatenated y) ew em eo = λ t. record { n = b .n; phase = p; concatenated = eo t; cell = fun-ext (λ k. (λ t. marks k (ew t k) (em t k)) ∙ at (λ q. q) (λ q. q) k) t }
 
 -- a cell put back where it was
 kept : (s : State) (i : ℕ) → moved s (s .phase) i (s .cell i) ≡ s
-kept s i = λ t. record { n = s .n; phase = s .phase; cell = fun-ext same t }
+kept s i = λ t. record { n = s .n; phase = s .phase; concatenated = s .concatenated; cell = fun-ext same t }
   where
     same : (k : ℕ) → upd (s .cell) i (s .cell i) k ≡ s .cell k
     same k = go (eqb k i) refl
@@ -111,7 +114,7 @@ kept s i = λ t. record { n = s .n; phase = s .phase; cell = fun-ext same t }
 
 -- a plan for node i carried out on a state
 abbrev pub applied : State → ℕ → Plan → Result
-applied s i p = record { number = p .number; report = p .report; state = cleared (p .clears) (moved s (p .phase) i (p .cell)) }
+applied s i p = record { number = p .number; report = p .report; state = remarked (p .marking) (moved s (p .phase) i (p .cell)) }
 
 abbrev pub resultOf : Plan → State → Result
 resultOf p s = record { number = p .number; report = p .report; state = s }
@@ -123,14 +126,14 @@ plays s i (does r p c x) = refl
 abbrev aim : State → Decoded → ℕ
 aim s d = aimed (s .n) (s .phase) (pendings (s .cell)) d
 
-steps : (s : State) (d : Decoded) → applied s (aim s d) (planned (s .n) (s .phase) (aim s d) (s .cell (aim s d)) (wons (s .cell)) (pendings (s .cell)) (holders (s .cell)) d) ≡ stepWith s d
+steps : (s : State) (d : Decoded) → applied s (aim s d) (planned (s .n) (s .phase) (s .concatenated) (aim s d) (s .cell (aim s d)) (wons (s .cell)) (pendings (s .cell)) (holders (s .cell)) d) ≡ stepWith s d
 unfolding play
 steps s (Refused k) = ap {B = Result} (λ s. record { number = k; report = _; state = s }) (kept s 0)
 steps s (Accepted m) = plays s (about s m) (comesTo s m)
 
 pub carried : (b : Bus) (d : Decoded) (i : ℕ) (c : Cell) (p : Plan) → i ≡ aimed (b .n) (b .phase) (mark (b .pending)) d →
     c ≡ cellOf (getD (b .nodes) i freshNode) (mark (b .won) i) (mark (b .pending) i) (mark (b .holder) i) (mark (b .misled) i) →
-    p ≡ planned (b .n) (b .phase) i c (mark (b .won)) (mark (b .pending)) (mark (b .holder)) d →
+    p ≡ planned (b .n) (b .phase) (b .concatenated) i c (mark (b .won)) (mark (b .pending)) (mark (b .holder)) d →
     applied (view b) i p ≡ stepWith (view b) d
 unfolding view
 carried b d i c p ei ec ep = rw (ep, ec, ei) (steps (view b) d)

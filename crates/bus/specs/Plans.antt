@@ -7,8 +7,8 @@ use Rattle.charts.specs.declared.Report.{Report}
 use Rattle.charts.specs.declared.Report.the-variants.{Silent}
 use Rattle.charts.specs.declared.Phase.{Phase}
 use Rattle.charts.specs.declared.Cell.{Cell}
-use Rattle.charts.specs.declared.Clears.{Clears}
-use Rattle.charts.specs.declared.Clears.the-variants as C
+use Rattle.charts.specs.declared.Marking.{Marking}
+use Rattle.charts.specs.declared.Marking.the-variants as M
 use Rattle.charts.specs.declared.Decoded.{Decoded}
 use Rattle.charts.specs.declared.Decoded.the-variants.{Refused, Accepted}
 use Rattle.charts.specs.Numbers as N
@@ -18,10 +18,10 @@ use Rattle.bus.specs.declared.plans.Plan.{Plan}
 
 -- "A refused step returns the number, the state handed in and no report"
 abbrev pub refusing : ℕ → Phase → Cell → Plan
-refusing k p c = record { number = k; report = Silent; phase = p; cell = c; clears = C.Nothing }
+refusing k p c = record { number = k; report = Silent; phase = p; cell = c; marking = M.Nothing }
 
-abbrev pub doing : Report → Phase → Cell → Clears → Plan
-doing r p c x = record { number = N.accepted; report = r; phase = p; cell = c; clears = x }
+abbrev pub doing : Report → Phase → Cell → Marking → Plan
+doing r p c x = record { number = N.accepted; report = r; phase = p; cell = c; marking = x }
 
 -- the plan of an outcome, on a bus in phase p, for a node whose cell is c
 abbrev pub settled : Phase → Cell → Outcome → Plan
@@ -33,18 +33,18 @@ abbrev pub aimed : ℕ → Phase → (ℕ → Bool) → Decoded → ℕ
 aimed n p ps (Refused k) = 0
 aimed n p ps (Accepted m) = target n p ps m
 
--- the plan of a record about node i, whose cell is c
-abbrev pub planned : ℕ → Phase → ℕ → Cell → (ℕ → Bool) → (ℕ → Bool) → (ℕ → Bool) → Decoded → Plan
-planned n p i c ws ps hs (Refused k) = refusing k p c
-planned n p i c ws ps hs (Accepted m) = settled p c (outcome n p i c ws ps hs m)
+-- the plan of a record about node i, whose cell is c; b is the bus's own mark
+abbrev pub planned : ℕ → Phase → Bool → ℕ → Cell → (ℕ → Bool) → (ℕ → Bool) → (ℕ → Bool) → Decoded → Plan
+planned n p b i c ws ps hs (Refused k) = refusing k p c
+planned n p b i c ws ps hs (Accepted m) = settled p c (outcome n p b i c ws ps hs m)
 
 -- the clauses of 12 that make a plan for node i safe; the plan that asks for them, of any record about any node
 abbrev pub isReady : ℕ → Phase → ℕ → Bool
 isReady n p i = ltb n 64 && (phaseFits n p && ltb i 63)
 
-abbrev pub tried : ℕ → Phase → ℕ → Cell → (ℕ → Bool) → (ℕ → Bool) → (ℕ → Bool) → Decoded → Plan
-tried n p i c ws ps hs (Refused k) = refusing k p c
-tried n p i c ws ps hs (Accepted m) = cond (isReady n p i) (settled p c (outcome n p i c ws ps hs m)) (refusing N.not-valid p c)
+abbrev pub tried : ℕ → Phase → Bool → ℕ → Cell → (ℕ → Bool) → (ℕ → Bool) → (ℕ → Bool) → Decoded → Plan
+tried n p b i c ws ps hs (Refused k) = refusing k p c
+tried n p b i c ws ps hs (Accepted m) = cond (isReady n p i) (settled p c (outcome n p b i c ws ps hs m)) (refusing N.not-valid p c)
 
 -- what indexing by an accepted record needs
 pub record Fits (n : ℕ) (p : Phase) (i : ℕ) : Type 0 where

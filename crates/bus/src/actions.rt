@@ -7,13 +7,13 @@ ghost use Rattle.charts.specs.declared.Report.the-variants as R;
 ghost use Rattle.charts.specs.declared.Phase.the-variants as P;
 ghost use Rattle.charts.specs.declared.Buffer.the-variants as B;
 ghost use Rattle.charts.specs.declared.Output.the-variants as O;
-ghost use Rattle.charts.specs.declared.Clears.the-variants as C;
+ghost use Rattle.charts.specs.declared.Marking.the-variants as M;
 ghost use Rattle.charts.specs.Modes.{isRest};
 ghost use Rattle.charts.specs.State.{isEmpty, upd};
 ghost use Rattle.charts.specs.Arrivals.{arrives};
 ghost use Rattle.charts.specs.Actions.{request, arbitrate, arbitrateWith, respond, clock, clockWith, carry, deliverWith, grant, gap, reset};
-ghost use Rattle.charts.specs.Actions.{starts, wins, firstOther, nextOther, freed, afterFree, putsOut, clearedBy, onward, hearing};
-ghost use Rattle.charts.specs.Actions.{takesGrant, afterGrant, afterGap};
+ghost use Rattle.charts.specs.Actions.{starts, wins, firstOther, nextOther, freed, afterFree, putsOut, markingBy, onward, hearing};
+ghost use Rattle.charts.specs.Actions.{takesGrant, afterGrant};
 ghost use Rattle.charts.specs.Valid.{phaseFits};
 ghost use Rattle.charts.specs.View.{mark};
 ghost use Rattle.bus.specs.Plans.{doing, settled};
@@ -26,8 +26,8 @@ use crate::plans::Plan;
 use charts::Arrival;
 use charts::Buffer;
 use charts::Cell;
-use charts::Clears;
 use charts::Heard;
+use charts::Marking;
 use charts::Mode;
 use charts::Output;
 use charts::Packet;
@@ -84,9 +84,9 @@ fn win(p: Packet, c: Cell) -> Cell
 
 // "Otherwise report lost; nothing changes."
 fn lost(phase: Phase, i: u8, c: Cell) -> Plan
-    ensures { λ r. ⌜ r ≡ doing (R.Lost i) phase c C.Nothing ⌝ }
+    ensures { λ r. ⌜ r ≡ doing (R.Lost i) phase c M.Nothing ⌝ }
 {
-    plans::does(Report::Lost(i), phase, c, Clears::Nothing)
+    plans::does(Report::Lost(i), phase, c, Marking::Nothing)
 }
 
 // Node i asks for the bus with the packet p in its buffer.
@@ -103,7 +103,7 @@ fn contend(phase: Phase, i: u8, c: Cell, p: Packet) -> Plan
     if c.won {
         return lost(phase, i, c);
     }
-    plans::does(Report::Won(i), Phase::Busy, win(p, c), Clears::Nothing)
+    plans::does(Report::Won(i), Phase::Busy, win(p, c), Marking::Nothing)
 }
 
 // 2. arbitrate
@@ -117,12 +117,15 @@ pub(crate) fn arbitrate(phase: Phase, i: u8, c: Cell) -> Plan
     }
 }
 
-// 3. respond
-pub(crate) fn respond(phase: Phase, c: Cell, ack: u8, hold: bool) -> Plan
-    ensures { λ r. ⌜ r ≡ settled phase c (respond phase c ack hold) ⌝ }
+// 3. respond. While the bus is marked, hold 1 is not open.
+pub(crate) fn respond(phase: Phase, concatenated: bool, c: Cell, ack: u8, hold: bool) -> Plan
+    ensures { λ r. ⌜ r ≡ settled phase c (respond phase concatenated c ack hold) ⌝ }
 {
     let mode = c.mode;
     if !link::modes::is_answering(mode) {
+        return plans::closed(phase, c);
+    }
+    if bools::both(concatenated, hold) {
         return plans::closed(phase, c);
     }
     let acking = Mode::Acking {
@@ -180,21 +183,24 @@ fn free(n: u8, phase: Phase, i: u8, c: Cell, holder: &[bool; 63]) -> Plan
     plans::quietly(after_free(n, i, holder), freed(c))
 }
 
-// "Start clears the misled marks"
-fn clears_of(s: Signal) -> Clears
-    ensures { λ r. ⌜ r ≡ clearedBy s ⌝ }
+// "Start clears the misled marks"; the Prefix of an Acking node marks the bus.
+fn marking_by(mode: Mode, s: Signal) -> Marking
+    ensures { λ r. ⌜ r ≡ markingBy mode s ⌝ }
 {
     if link::signals::is_start(s) {
-        Clears::Misled
-    } else {
-        Clears::Nothing
+        return Marking::Misled;
     }
+    if bools::both(link::modes::is_acking(mode), link::signals::is_prefix(s)) {
+        return Marking::Concatenated(true);
+    }
+    Marking::Nothing
 }
 
 // Node i puts out a signal; "End ends the holding".
 fn put(i: u8, c: Cell, s: Signal, m: Mode, report: Report) -> Plan
-    ensures { λ r. ⌜ r ≡ doing report (P.Delivering i s (firstOther i)) (putsOut s m c) (clearedBy s) ⌝ }
+    ensures { λ r. ⌜ r ≡ doing report (P.Delivering i s (firstOther i)) (putsOut s m c) (markingBy (c .mode) s) ⌝ }
 {
+    let mode = c.mode;
     let ends = link::signals::is_end(s);
     let phase = Phase::Delivering {
         sender: i,
@@ -205,7 +211,7 @@ fn put(i: u8, c: Cell, s: Signal, m: Mode, report: Report) -> Plan
         report,
         phase,
         cells::set_mode(m, cells::set_holder(!ends, c)),
-        clears_of(s),
+        marking_by(mode, s),
     )
 }
 
@@ -293,10 +299,10 @@ fn hearing(c: Cell, heard: Heard, misleads: bool) -> Cell
 fn delivers(n: u8, i: u8, s: Signal, j: u8, pending: &[bool; 63], report: Report, c: Cell) -> Plan
     requires { ⌜ n ≤ 63 ⌝ }
     requires { ⌜ j < 63 ⌝ }
-    ensures { λ r. ⌜ r ≡ doing report (onward n i s j (upd (mark (now (pending .entry))) j (c .pending))) c C.Nothing ⌝ }
+    ensures { λ r. ⌜ r ≡ doing report (onward n i s j (upd (mark (now (pending .entry))) j (c .pending))) c M.Nothing ⌝ }
 {
     let phase = onward(n, i, s, j, pending, c.pending);
-    plans::does(report, phase, c, Clears::Nothing)
+    plans::does(report, phase, c, Marking::Nothing)
 }
 
 // Node i's signal is carried to its next receiver j.
@@ -385,19 +391,7 @@ pub(crate) fn grant(n: u8, phase: Phase, i: u8, c: Cell, pending: &[bool; 63]) -
     plans::quietly(after_grant(n, i, pending), take_grant(c))
 }
 
-// "after node n−1 the bus is Idle"
-fn after_gap(n: u8, j: u8) -> Phase
-    requires { ⌜ j < 63 ⌝ }
-    ensures { λ r. ⌜ r ≡ afterGap n j ⌝ }
-{
-    if j + 1 < n {
-        Phase::Gapping(j + 1)
-    } else {
-        Phase::Idle
-    }
-}
-
-// Node j gets Gap.
+// Node j gets Gap; "after node n−1 the bus is Idle", and no longer marked.
 fn gap_at(n: u8, j: u8, c: Cell) -> Plan
     requires { ⌜ j < 63 ⌝ }
     ensures { λ r. ⌜ r ≡ settled (P.Gapping j) c (gap n (P.Gapping j) c) ⌝ }
@@ -406,12 +400,11 @@ fn gap_at(n: u8, j: u8, c: Cell) -> Plan
     let heard = link::receive_gap(j, mode);
     let next = heard.mode;
     let report = heard.report;
-    plans::does(
-        report,
-        after_gap(n, j),
-        cells::set_mode(next, c),
-        Clears::Nothing,
-    )
+    let then = cells::set_mode(next, c);
+    if j + 1 < n {
+        return plans::does(report, Phase::Gapping(j + 1), then, Marking::Nothing);
+    }
+    plans::does(report, Phase::Idle, then, Marking::Concatenated(false))
 }
 
 // 9. gap
@@ -444,5 +437,5 @@ pub(crate) fn reset(n: u8, phase: Phase, c: Cell, won: &[bool; 63]) -> Plan
     if !marks::some(won, n) {
         return plans::closed(phase, c);
     }
-    plans::does(Report::Silent, phase, c, Clears::Won)
+    plans::does(Report::Silent, phase, c, Marking::Won)
 }

@@ -44,6 +44,7 @@ fn target(n: u8, phase: Phase, pending: &[bool; 63], m: Move) -> u8
 fn play(
     n: u8,
     phase: Phase,
+    concatenated: bool,
     i: u8,
     c: Cell,
     won: &[bool; 63],
@@ -54,12 +55,12 @@ fn play(
     requires { ⌜ n ≤ 63 ⌝ }
     requires { ⌜ phaseFits n phase ≡ true ⌝ }
     requires { ⌜ i < 63 ⌝ }
-    ensures { λ r. ⌜ r ≡ settled phase c (outcome n phase i c (mark (now (won .entry))) (mark (now (pending .entry))) (mark (now (holder .entry))) m) ⌝ }
+    ensures { λ r. ⌜ r ≡ settled phase c (outcome n phase concatenated i c (mark (now (won .entry))) (mark (now (pending .entry))) (mark (now (holder .entry))) m) ⌝ }
 {
     match m {
         Move::Request { node: _, packet } => actions::request(phase, c, packet),
         Move::Arbitrate(_) => actions::arbitrate(phase, i, c),
-        Move::Respond { node: _, ack, hold } => actions::respond(phase, c, ack, hold),
+        Move::Respond { node: _, ack, hold } => actions::respond(phase, concatenated, c, ack, hold),
         Move::Clock(_) => actions::clock(n, phase, i, c, holder),
         Move::Carry(way) => actions::carry(n, phase, c, pending, way),
         Move::Grant => actions::grant(n, phase, i, c, pending),
@@ -84,6 +85,7 @@ pub(crate) fn aim(n: u8, phase: Phase, pending: &[bool; 63], d: Decoded) -> u8
 pub(crate) fn decide(
     n: u8,
     phase: Phase,
+    concatenated: bool,
     i: u8,
     c: Cell,
     won: &[bool; 63],
@@ -91,7 +93,7 @@ pub(crate) fn decide(
     holder: &[bool; 63],
     d: Decoded,
 ) -> Plan
-    ensures { λ r. ⌜ r ≡ tried n phase i c (mark (now (won .entry))) (mark (now (pending .entry))) (mark (now (holder .entry))) d ⌝ }
+    ensures { λ r. ⌜ r ≡ tried n phase concatenated i c (mark (now (won .entry))) (mark (now (pending .entry))) (mark (now (holder .entry))) d ⌝ }
 {
     let Decoded::Accepted(m) = d else {
         return plans::refuse(record::number(d), phase, c);
@@ -99,5 +101,5 @@ pub(crate) fn decide(
     if !validity::is_ready(n, phase, i) {
         return plans::refuse(NOT_VALID, phase, c);
     }
-    play(n, phase, i, c, won, pending, holder, m)
+    play(n, phase, concatenated, i, c, won, pending, holder, m)
 }

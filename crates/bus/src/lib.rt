@@ -61,6 +61,7 @@ fn blank(n: u8) -> Bus
         pending: unmarked,
         holder: unmarked,
         misled: unmarked,
+        concatenated: false,
     }
 }
 
@@ -94,20 +95,21 @@ fn carry_out(b: Bus, d: Decoded) -> Played
     let mut pending = b.pending;
     let mut holder = b.holder;
     let mut misled = b.misled;
+    let concatenated = b.concatenated;
     let i = decide::aim(n, phase, &pending, d);
     let at = i as usize;
     let node = nodes[at];
     let c = cells::cell_of(node, won[at], pending[at], holder[at], misled[at]);
-    let plan = decide::decide(n, phase, i, c, &won, &pending, &holder, d);
+    let plan = decide::decide(n, phase, concatenated, i, c, &won, &pending, &holder, d);
     let next = plan.cell;
     nodes[at] = cells::node_of(next);
     won[at] = next.won;
     pending[at] = next.pending;
     holder[at] = next.holder;
     misled[at] = next.misled;
-    let clears = plan.clears;
-    clear(&mut misled, plans::clears_misled(clears), n);
-    clear(&mut won, plans::clears_won(clears), n);
+    let marking = plan.marking;
+    clear(&mut misled, plans::clears_misled(marking), n);
+    clear(&mut won, plans::clears_won(marking), n);
     let phase_then = plan.phase;
     let report = plan.report;
     let then = Bus {
@@ -118,6 +120,7 @@ fn carry_out(b: Bus, d: Decoded) -> Played
         pending: pending,
         holder: holder,
         misled: misled,
+        concatenated: plans::concatenated_after(marking, concatenated),
     };
     Played {
         number: plan.number,
@@ -186,6 +189,7 @@ pub fn aim(n: u8, phase: Phase, pending: &[bool; 63], a: Action) -> Aimed
 pub fn plan(
     n: u8,
     phase: Phase,
+    concatenated: bool,
     i: u8,
     c: Cell,
     won: &[bool; 63],
@@ -193,9 +197,9 @@ pub fn plan(
     holder: &[bool; 63],
     d: Decoded,
 ) -> Plan
-    ensures { λ r. ⌜ r ≡ tried n phase i c (mark (now (won .entry))) (mark (now (pending .entry))) (mark (now (holder .entry))) d ⌝ }
+    ensures { λ r. ⌜ r ≡ tried n phase concatenated i c (mark (now (won .entry))) (mark (now (pending .entry))) (mark (now (holder .entry))) d ⌝ }
 {
-    decide::decide(n, phase, i, c, won, pending, holder, d)
+    decide::decide(n, phase, concatenated, i, c, won, pending, holder, d)
 }
 
 // Clears the marks of all nodes if it is asked; a bus has at most 63 of them.

@@ -1,24 +1,25 @@
 // Plans: what an action comes to for the one node that it is about.
 ghost use mathlib.Core.Path.{_≡_};
 ghost use Rattle.charts.specs.declared.Report.the-variants as R;
-ghost use Rattle.charts.specs.declared.Clears.the-variants as C;
+ghost use Rattle.charts.specs.declared.Marking.the-variants as M;
+ghost use Rattle.charts.specs.State.{concatenatedAfter};
 ghost use Rattle.charts.specs.Actions.{closed};
 ghost use Rattle.bus.specs.Marks.{clearsMisled, clearsWon};
 ghost use Rattle.bus.specs.Plans.{refusing, doing, settled};
 use charts::Cell;
-use charts::Clears;
+use charts::Marking;
 use charts::Phase;
 use charts::Report;
 
 const NOT_OPEN: u8 = 7;
 
-// 0 or the number of the refusal, the report, the bus's next phase, the next cell of the node that the action is about, and the marks cleared.
+// 0 or the number of the refusal, the report, the bus's next phase, the next cell of the node that the action is about, and the other marks changed.
 pub struct Plan {
     pub number: u8,
     pub report: Report,
     pub phase: Phase,
     pub cell: Cell,
-    pub clears: Clears,
+    pub marking: Marking,
 }
 
 // A refusal leaves the phase and the cell as they are.
@@ -30,7 +31,7 @@ pub(crate) fn refuse(number: u8, phase: Phase, c: Cell) -> Plan
         report: Report::Silent,
         phase: phase,
         cell: c,
-        clears: Clears::Nothing,
+        marking: Marking::Nothing,
     }
 }
 
@@ -42,41 +43,55 @@ pub(crate) fn closed(phase: Phase, c: Cell) -> Plan
 }
 
 // The action is carried out.
-pub(crate) fn does(report: Report, phase: Phase, c: Cell, clears: Clears) -> Plan
-    ensures { λ r. ⌜ r ≡ doing report phase c clears ⌝ }
+pub(crate) fn does(report: Report, phase: Phase, c: Cell, marking: Marking) -> Plan
+    ensures { λ r. ⌜ r ≡ doing report phase c marking ⌝ }
 {
     Plan {
         number: 0,
         report: report,
         phase: phase,
         cell: c,
-        clears: clears,
+        marking: marking,
     }
 }
 
-// Nothing is reported and no marks are cleared.
+// Nothing is reported and no other marks are changed.
 pub(crate) fn quietly(phase: Phase, c: Cell) -> Plan
-    ensures { λ r. ⌜ r ≡ doing R.Silent phase c C.Nothing ⌝ }
+    ensures { λ r. ⌜ r ≡ doing R.Silent phase c M.Nothing ⌝ }
 {
-    does(Report::Silent, phase, c, Clears::Nothing)
+    does(Report::Silent, phase, c, Marking::Nothing)
 }
 
-pub fn clears_misled(clears: Clears) -> bool
-    ensures { λ r. ⌜ r ≡ clearsMisled clears ⌝ }
+pub fn clears_misled(marking: Marking) -> bool
+    ensures { λ r. ⌜ r ≡ clearsMisled marking ⌝ }
 {
-    match clears {
-        Clears::Nothing => false,
-        Clears::Misled => true,
-        Clears::Won => false,
+    match marking {
+        Marking::Nothing => false,
+        Marking::Misled => true,
+        Marking::Won => false,
+        Marking::Concatenated(_) => false,
     }
 }
 
-pub fn clears_won(clears: Clears) -> bool
-    ensures { λ r. ⌜ r ≡ clearsWon clears ⌝ }
+pub fn clears_won(marking: Marking) -> bool
+    ensures { λ r. ⌜ r ≡ clearsWon marking ⌝ }
 {
-    match clears {
-        Clears::Nothing => false,
-        Clears::Misled => false,
-        Clears::Won => true,
+    match marking {
+        Marking::Nothing => false,
+        Marking::Misled => false,
+        Marking::Won => true,
+        Marking::Concatenated(_) => false,
+    }
+}
+
+// The bus's own mark once a plan is carried out.
+pub fn concatenated_after(marking: Marking, concatenated: bool) -> bool
+    ensures { λ r. ⌜ r ≡ concatenatedAfter marking concatenated ⌝ }
+{
+    match marking {
+        Marking::Nothing => concatenated,
+        Marking::Misled => concatenated,
+        Marking::Won => concatenated,
+        Marking::Concatenated(set) => set,
     }
 }

@@ -70,6 +70,7 @@ fn mode_fits(mode: Mode) -> bool
         Mode::Acking { step, ack, hold: _ } => bools::both(step < 3, is_ack(ack)),
         Mode::Holding => true,
         Mode::Spurious => true,
+        Mode::Listening => true,
     }
 }
 

@@ -13,9 +13,10 @@ use Rattle.bus.proofs.cells.node_of.Reads as node-of-reads
 use Rattle.bus.proofs.plans.clears_misled.Reads as clears-misled-reads
 use Rattle.bus.proofs.clear.Reads as clear-reads
 use Rattle.bus.proofs.plans.clears_won.Reads as clears-won-reads
+use Rattle.bus.proofs.plans.concatenated_after.Reads as concatenated-after-reads
 
 -- what owning the record tells of its arrays; stated apart, where little else is known, since the search looks through all of it
-sized : (c : lts.Start (aim-reads.Asked, aim-reads.Learnt, cell-of-reads.Asked, cell-of-reads.Learnt, decide-reads.Asked, decide-reads.Learnt, node-of-reads.Asked, node-of-reads.Learnt, clears-misled-reads.Asked, clears-misled-reads.Learnt, clear-reads.Asked, clear-reads.Learnt, clears-won-reads.Asked, clears-won-reads.Learnt) reads.Pre reads.Post) → Sized (c .args .b)
+sized : (c : lts.Start (aim-reads.Asked, aim-reads.Learnt, cell-of-reads.Asked, cell-of-reads.Learnt, decide-reads.Asked, decide-reads.Learnt, node-of-reads.Asked, node-of-reads.Learnt, clears-misled-reads.Asked, clears-misled-reads.Learnt, clear-reads.Asked, clear-reads.Learnt, clears-won-reads.Asked, clears-won-reads.Learnt, concatenated-after-reads.Asked, concatenated-after-reads.Learnt) reads.Pre reads.Post) → Sized (c .args .b)
 sized c = record { nodes-size = search (needs, length-mapped); won-size = search needs; pending-size = search needs; holder-size = search (needs, c .good .0 .1 .1 .1 .1); misled-size = search (needs, c .good .0 .1 .1 .1 .1) }
 
 aim-requires : tie.Need-aim-requires
@@ -81,17 +82,22 @@ clears-won-requires c κs = search needs
 clear-requires-2 : tie.Need-clear-requires-2
 clear-requires-2 c κs = search needs
 
+concatenated-after-requires : tie.Need-concatenated-after-requires
+concatenated-after-requires c κs = search needs
+
 returns : tie.Need-returns
 returns c =
-    let b = c .before .before .before .before .before .before .before .before .before .before .before .before .before .before .before .before .before .before .before .before .before .args .b in
-    let aim = c .before .before .before .before .before .before .before .before .before .before .before .before .before .before .aim in
-    let cell = c .before .before .before .before .before .before .before .before .before .before .before .before .cell-of in
-    let plan = c .before .before .before .before .before .before .before .before .decide in
-    let node = c .before .before .before .before .before .before .node-of in
-    let asks-misled = c .before .before .before .before .clears-misled in
-    let asks-won = c .before .clears-won in
-    carries b (c .before .before .before .before .before .before .before .before .before .before .before .before .before .before .before .before .before .before .before .before .before .args .d) (aim .result) (cell .result) (plan .result) (sized (c .before .before .before .before .before .before .before .before .before .before .before .before .before .before .before .before .before .before .before .before .before)) (c .before .before .before .before .before .before .before .before .before .before .before .before .before .before .before .before .before .before .before .before .before .pre) (aim .ensures .1) (aim .ensures .0) (cell .ensures) (plan .ensures)
-    (node .result) (c .clear2 .last .0) (c .before .before .before .clear .last .0) (asks-won .result) (asks-misled .result) (node .ensures) (asks-won .ensures) (c .clear2 .ensures .1) (asks-misled .ensures) (c .before .before .before .clear .ensures .1)
+    let start = c .before .before .before .before .before .before .before .before .before .before .before .before .before .before .before .before .before .before .before .before .before .before in
+    let aim = c .before .before .before .before .before .before .before .before .before .before .before .before .before .before .before .aim in
+    let cell = c .before .before .before .before .before .before .before .before .before .before .before .before .before .cell-of in
+    let plan = c .before .before .before .before .before .before .before .before .before .decide in
+    let node = c .before .before .before .before .before .before .before .node-of in
+    let asks-misled = c .before .before .before .before .before .clears-misled in
+    let asks-won = c .before .before .clears-won in
+    let own = c .concatenated-after in
+    carries (start .args .b) (start .args .d) (aim .result) (cell .result) (plan .result) (sized start) (start .pre) (aim .ensures .1) (aim .ensures .0) (cell .ensures) (plan .ensures)
+    (node .result) (c .before .clear2 .last .0) (c .before .before .before .before .clear .last .0) (asks-won .result) (asks-misled .result) (own .result)
+    (node .ensures) (asks-won .ensures) (c .before .clear2 .ensures .1) (asks-misled .ensures) (c .before .before .before .before .clear .ensures .1) (own .ensures)
 
 pub carry-out-spec : {M : Type 1} → statement M
 carry-out-spec =
@@ -118,4 +124,5 @@ carry-out-spec =
     clear-requires
     clears-won-requires
     clear-requires-2
+    concatenated-after-requires
     returns)

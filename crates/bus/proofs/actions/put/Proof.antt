@@ -14,14 +14,14 @@ set-holder-requires c κs = search needs
 set-mode-requires : tie.Need-set-mode-requires
 set-mode-requires c κs = search needs
 
-clears-of-requires : tie.Need-clears-of-requires
-clears-of-requires c κs = search needs
+marking-by-requires : tie.Need-marking-by-requires
+marking-by-requires c κs = search needs
 
 does-requires : tie.Need-does-requires
 does-requires c κs = search needs
 
 returns : tie.Need-returns
-returns c = simp (c .before .before .before .before .before .is-end .ensures, c .before .before .before .before .first-other .ensures, c .before .before .before .set-holder .ensures, c .before .before .set-mode .ensures, c .before .clears-of .ensures, c .does .ensures)
+returns c = simp (c .before .before .before .before .before .is-end .ensures, c .before .before .before .before .first-other .ensures, c .before .before .before .set-holder .ensures, c .before .before .set-mode .ensures, c .before .marking-by .ensures, c .does .ensures)
 
 pub put-spec : {M : Type 1} → statement M
 put-spec =
@@ -31,6 +31,6 @@ put-spec =
     first-other-requires
     set-holder-requires
     set-mode-requires
-    clears-of-requires
+    marking-by-requires
     does-requires
     returns)

@@ -5,7 +5,7 @@ use borrow.Author.Tests.{not-true, not-false}
 use Rattle.charts.specs.declared.Phase.{Phase}
 use Rattle.charts.specs.declared.Cell.{Cell}
 use Rattle.charts.specs.declared.Report.the-variants.{Silent}
-use Rattle.charts.specs.declared.Clears.the-variants.{Won}
+use Rattle.charts.specs.declared.Marking.the-variants.{Won}
 use Rattle.charts.specs.State.{some, isIdle}
 use Rattle.charts.specs.Actions.{Outcome, does, when, reset}
 use borrow.Author.Needs.{needs}

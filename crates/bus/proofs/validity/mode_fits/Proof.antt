@@ -72,6 +72,9 @@ enum-told-16 c = search needs
 enum-told-17 : tie.Need-enum-told-17
 enum-told-17 c = search needs
 
+enum-told-18 : tie.Need-enum-told-18
+enum-told-18 c = search needs
+
 returns : tie.Need-returns
 unfolding modeFits
 returns c = simp (c .enum-told .given .1)
@@ -152,6 +155,10 @@ returns-20 : tie.Need-returns-20
 unfolding modeFits
 returns-20 c = simp (c .enum-told17 .given .1)
 
+returns-21 : tie.Need-returns-21
+unfolding modeFits
+returns-21 c = simp (c .enum-told18 .given .1)
+
 pub mode-fits-spec : {M : Type 1} → statement M
 mode-fits-spec =
     tie.close
@@ -179,6 +186,7 @@ mode-fits-spec =
     both-requires
     enum-told-16
     enum-told-17
+    enum-told-18
     returns
     returns-2
     returns-3
@@ -198,4 +206,5 @@ mode-fits-spec =
     returns-17
     returns-18
     returns-19
-    returns-20)
+    returns-20
+    returns-21)
