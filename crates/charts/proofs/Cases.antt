@@ -137,7 +137,7 @@ reply =
     take 15 b ++ (respond 1 1 1 ∷ times 3 (clock 1 ∷ pass ∷ []) ++ (request 1 0 7 8 ∷ times 6 (clock 1 ∷ pass ∷ [])
     ++ (grant ∷ respond 0 2 0 ∷ times 3 (clock 0 ∷ pass ∷ []) ++ (gap ∷ gap ∷ []))))
 
--- n = 3: node 1 puts out a filler before it replies to all nodes, and node 0 alone hears it
+-- n = 3: node 1 puts out a filler and then replies to all nodes
 abbrev replyAll : List Action
 replyAll =
     request 0 1 5 6 ∷ arbitrate 0 ∷ times 6 (clock 0 ∷ pass ∷ pass ∷ []) ++ (grant ∷ respond 1 1 1 ∷ times 4 (clock 1 ∷ pass ∷ pass ∷ [])
@@ -177,6 +177,7 @@ table =
     ∷ row 2 reply (at 1 (Won 0) ∷ at 13 (Good 1 (head 5) 6) ∷ at 21 (Acked 0 1) ∷ at 34 (Good 0 (head 7) 8) ∷ at 42 (Acked 1 2) ∷ []) [] 45 Idle
     -- the same, with a respond with hold 1 tried first: 7
     ∷ row 2 (take 36 reply ++ (respond 0 2 1 ∷ drop 36 reply)) (at 1 (Won 0) ∷ at 13 (Good 1 (head 5) 6) ∷ at 21 (Acked 0 1) ∷ at 34 (Good 0 (head 7) 8) ∷ at 43 (Acked 1 2) ∷ []) (at 36 7 ∷ []) 45 Idle
+    -- a reply to all nodes behind a filler: node 0, who listened, is told; node 2 waits
     ∷ row 3 replyAll (at 1 (Won 0) ∷ at 18 (Good 1 (head 5) 6) ∷ at 29 (Acked 0 1) ∷ at 50 (Sent 1) ∷ at 51 (Broad 0 (head 7) 8) ∷ []) [] 56 Idle
     ∷ []
 

@@ -8,6 +8,7 @@ pub mod Reach
 pub mod Sums
 pub mod Progress
 pub mod Ends
+pub mod Replies
 pub mod Open
 pub mod Books
 pub mod Tally

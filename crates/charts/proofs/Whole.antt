@@ -1,6 +1,6 @@
 -- Demand 3, whole: the invariants hold of the fresh bus with empty books, a step keeps them, and so they hold after every list; the claim is read off them.
 use mathlib.Core.Path.{_≡_, sym, ap, subst, _∙_}
-use mathlib.Core.Bool.{true, false}
+use mathlib.Core.Bool.{true, true≢false}
 use mathlib.Core.List.{List, [], _∷_}
 use Prim.Native.Nat.{ℕ, _<_, _≤_}
 use native.Mathlib.Omega.{arith}
@@ -13,13 +13,15 @@ use Rattle.charts.specs.Records.{moveOf}
 use Rattle.charts.specs.Step.{Result, step, after, Event, eventOf, events}
 use Rattle.charts.specs.Demand.{Book, newBook, enters, bookOf, final, history, book, bound, Demand3}
 use Rattle.charts.specs.Stretch.{EveryAck}
-use Rattle.charts.proofs.Places.{mode-is}
+use Rattle.charts.specs.Replies.{OneReply}
+use Rattle.charts.proofs.Places.{holdIn, mode-is}
 use Rattle.charts.proofs.Ways.{is-idle}
 use Rattle.charts.proofs.Steps.{Stepped, refused, acts, stepped, run-n}
 use Rattle.charts.proofs.Stages.{IdleAt, Stage}
 use Rattle.charts.proofs.Reach.{Reach, start}
 use Rattle.charts.proofs.Progress.{effect-reach}
 use Rattle.charts.proofs.Ends.{meets}
+use Rattle.charts.proofs.Replies.{at-most-one}
 use Rattle.charts.proofs.Open.{some-open}
 use Rattle.charts.proofs.Validity.{run-valid}
 use Rattle.charts.proofs.Books.{Kept, books-kept, fresh-kept, ours, none-runs}
@@ -65,10 +67,6 @@ module _ (n : ℕ) (two : 2 ≤ n) (small : n ≤ 63) (l : List Action) where
   at-rest : isIdle (final n l .phase) ≡ true → (i : ℕ) → i < n → placeOf (final n l .cell i .mode) ≡ P.rest
   at-rest e i h = idle e .resting i (in-n i h)
 
-  -- an Idle bus is not marked
-  pub idle-unmarked : isIdle (final n l .phase) ≡ true → final n l .concatenated ≡ false
-  idle-unmarked e = idle e .unmarked
-
   pub demand-3 : Demand3 n l
   demand-3 = record {
     right = λ i h. whole .kept i .right;
@@ -85,3 +83,11 @@ module _ (n : ℕ) (two : 2 ≤ n) (small : n ≤ 63) (l : List Action) where
   -- the acknowledgement claim once more, of places in the list of events alone
   pub every-ack-of : EveryAck n l
   every-ack-of = every-ack n l (demand-3 .right) (demand-3 .honest)
+
+  -- beside it: the bus's own mark, and replies
+  pub one-reply-of : OneReply n l
+  one-reply-of = record {
+    unmarked = λ e. idle e .unmarked;
+    last = λ e i h k a q. true≢false (sym (ap holdIn q) ∙ whole .reached .last e i (in-n i h));
+    one-reply = at-most-one (final n l) (whole .reached);
+  }

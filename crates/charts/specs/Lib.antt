@@ -12,3 +12,4 @@ pub mod Step
 pub mod View
 pub mod Demand
 pub mod Stretch
+pub mod Replies

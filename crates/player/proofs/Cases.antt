@@ -1,4 +1,4 @@
--- Cases A to I, by one computed test of the table.
+-- The table of cases, by one computed test.
 use mathlib.Core.Path.{_≡_, refl}
 use mathlib.Core.Bool.{Bool, true, false, _&&_}
 use mathlib.Core.List.{List, [], _∷_, List·Memᴰ, List·Memᴰ·not-nil, List·Memᴰ·cases-cons}
@@ -53,7 +53,7 @@ row-holds (q ∷ l) e r m =
     let both = and-true (same (printed (q .file)) (q .text)) (hold l) e in
     ⊎-elim (λ is. rw is (same-eq (printed (q .file)) (q .text) (both .0))) (row-holds l (both .1) r) (List·Memᴰ·cases-cons m)
 
--- every row of the table: what document 01 says of its file is what is printed
+-- every row of the table: what the documents say of its file is what is printed
 pub cases-printed : (r : Row) → List·Memᴰ r cases → printed (r .file) ≡ r .text
 cases-printed = row-holds cases cases-hold
 

@@ -1,4 +1,4 @@
--- Document 01's marked cases A to I as rows of one table: the bytes of a file, and the text that document 01 says it prints. (proofs/Cases.antt tests the table.)
+-- Document 01's marked cases A to I and a concatenated response (request 1) as rows of one table: the bytes of a file, and the text that the documents say it prints. (proofs/Cases.antt tests the table.)
 use mathlib.Core.List.{List, [], _∷_, _++_}
 use Prim.Native.Nat.{ℕ}
 use lib.ListN.{replicate}
@@ -52,6 +52,12 @@ abbrev misled : List Action
 misled =
     request 0 1 5 6 ∷ arbitrate 0 ∷ clock 0 ∷ pass ∷ pass ∷ clock 0 ∷ pass ∷ pass ∷ clock 0 ∷ pass ∷ change 2
     ∷ clock 0 ∷ pass ∷ pass ∷ clock 0 ∷ pass ∷ pass ∷ clock 0 ∷ pass ∷ pass ∷ grant ∷ grant ∷ []
+
+-- request 1: node 1 acknowledges with hold 1, puts out a filler and replies to node 0, who is granted the bus
+abbrev replies : List Action
+replies =
+    sends 1 5 6 pass pass ++ (grant ∷ respond 1 1 1 ∷ clock 1 ∷ pass ∷ clock 1 ∷ pass ∷ clock 1 ∷ pass ∷ clock 1 ∷ pass
+    ∷ request 1 0 7 8 ∷ clock 1 ∷ pass ∷ clock 1 ∷ pass ∷ clock 1 ∷ pass ∷ clock 1 ∷ pass ∷ clock 1 ∷ pass ∷ clock 1 ∷ pass ∷ grant ∷ [])
 
 pub record Row : Type 0 where
   pub file : List ℕ
@@ -152,6 +158,21 @@ case-I-16 = record {
   text = ascii "nodes 2\n0 1 -\n1 2 0 won\n2 4 -\n3 5 -\n4 4 -\n5 5 -\n6 4 -\n7 5 -\n8 4 -\n9 5 -\n10 4 -\n11 5 -\n12 4 -\n13 5 1 good 5 6\n14 8 -\nrefused 15 6\n";
 }
 
+-- "a concatenated response in IEEE 1394 is meant to be received": node 0 hears the reply through the filler and acknowledges it
+abbrev pub case-reply : Row
+case-reply = record {
+  file = fileOf 2 (replies ++ (respond 0 2 0 ∷ clock 0 ∷ pass ∷ clock 0 ∷ pass ∷ clock 0 ∷ pass ∷ gap ∷ gap ∷ []));
+  text = ascii "nodes 2\n0 1 -\n1 2 0 won\n2 4 -\n3 5 -\n4 4 -\n5 5 -\n6 4 -\n7 5 -\n8 4 -\n9 5 -\n10 4 -\n11 5 -\n12 4 -\n13 5 1 good 5 6\n14 8 -\n15 3 -\n16 4 -\n17 5 -\n18 4 -\n19 5 -\n20 4 -\n21 5 0 ack 1\n22 4 -\n23 5 -\n24 1 -\n25 4 -\n26 5 -\n27 4 -\n28 5 -\n29 4 -\n30 5 -\n31 4 -\n32 5 -\n33 4 -\n34 5 -\n35 4 -\n36 5 0 good 7 8\n37 8 -\n38 3 -\n39 4 -\n40 5 -\n41 4 -\n42 5 -\n43 4 -\n44 5 1 ack 2\n45 9 -\n46 9 -\ndone 47\n";
+}
+
+-- "While it is set, respond with hold 1 is not open"
+abbrev pub case-reply-held : Row
+case-reply-held = record {
+  file = fileOf 2 (replies ++ (respond 0 2 1 ∷ []));
+  text = ascii "nodes 2\n0 1 -\n1 2 0 won\n2 4 -\n3 5 -\n4 4 -\n5 5 -\n6 4 -\n7 5 -\n8 4 -\n9 5 -\n10 4 -\n11 5 -\n12 4 -\n13 5 1 good 5 6\n14 8 -\n15 3 -\n16 4 -\n17 5 -\n18 4 -\n19 5 -\n20 4 -\n21 5 0 ack 1\n22 4 -\n23 5 -\n24 1 -\n25 4 -\n26 5 -\n27 4 -\n28 5 -\n29 4 -\n30 5 -\n31 4 -\n32 5 -\n33 4 -\n34 5 -\n35 4 -\n36 5 0 good 7 8\n37 8 -\nrefused 38 7\n";
+}
+
 abbrev pub cases : List Row
 cases =
-    case-A ∷ case-B ∷ case-C ∷ case-D ∷ case-E ∷ case-F-refused ∷ case-F-taken ∷ case-G ∷ case-H ∷ case-I-1 ∷ case-I-2 ∷ case-I-63 ∷ case-I-64 ∷ case-I-15 ∷ case-I-16 ∷ []
+    case-A ∷ case-B ∷ case-C ∷ case-D ∷ case-E ∷ case-F-refused ∷ case-F-taken ∷ case-G ∷ case-H ∷ case-I-1 ∷ case-I-2 ∷ case-I-63 ∷ case-I-64 ∷ case-I-15 ∷ case-I-16
+    ∷ case-reply ∷ case-reply-held ∷ []

@@ -58,6 +58,7 @@ pub(crate) fn play_actions(
     let mut pending = b.pending;
     let mut holder = b.holder;
     let mut misled = b.misled;
+    let mut concatenated = b.concatenated;
     let mut end = at;
     let mut k: usize = 0;
     while k < last {
@@ -68,16 +69,27 @@ pub(crate) fn play_actions(
         let i = aimed.node as usize;
         let node = nodes[i];
         let c = bus::cells::cell_of(node, won[i], pending[i], holder[i], misled[i]);
-        let plan = bus::plan(n, phase, aimed.node, c, &won, &pending, &holder, d);
+        let plan = bus::plan(
+            n,
+            phase,
+            concatenated,
+            aimed.node,
+            c,
+            &won,
+            &pending,
+            &holder,
+            d,
+        );
         let next = plan.cell;
         nodes[i] = bus::cells::node_of(next);
         won[i] = next.won;
         pending[i] = next.pending;
         holder[i] = next.holder;
         misled[i] = next.misled;
-        let clears = plan.clears;
-        bus::clear(&mut won, bus::plans::clears_won(clears), n);
-        bus::clear(&mut misled, bus::plans::clears_misled(clears), n);
+        let marking = plan.marking;
+        bus::clear(&mut won, bus::plans::clears_won(marking), n);
+        bus::clear(&mut misled, bus::plans::clears_misled(marking), n);
+        concatenated = bus::plans::concatenated_after(marking, concatenated);
         phase = plan.phase;
         let index = first + k as u64;
         if plan.number != 0 {
@@ -90,6 +102,7 @@ pub(crate) fn play_actions(
                 pending: pending,
                 holder: holder,
                 misled: misled,
+                concatenated: concatenated,
             };
             return Part {
                 bus: then,
@@ -109,6 +122,7 @@ pub(crate) fn play_actions(
         pending: pending,
         holder: holder,
         misled: misled,
+        concatenated: concatenated,
     };
     Part {
         bus: then,

@@ -6,8 +6,6 @@ use Rattle.charts.specs.declared.Mode.the-variants.{Rest, AckEnd}
 use Rattle.charts.specs.declared.Signal.the-variants.{Gap}
 use Rattle.charts.specs.declared.Report.the-variants.{Miss}
 use Rattle.charts.specs.Reception.{tells, hears}
-use mathlib.Core.Logic.{⊎-elim}
-use borrow.Author.Tests.{eq-eqb, ne-eqb, lt-ltb, le-ltb, le-leb, lt-leb}
 use borrow.Author.Needs.{needs}
 use Rattle.link.proofs.receive_gap.Statement.{statement}
 use Rattle.link.proofs.receive_gap.Tie as tie
