@@ -164,9 +164,12 @@ impl Closed {
     }
 }
 
+/// In how many runs a place is looked for; the rarest reason has one in every few.
+const TRIES: usize = 1000;
+
 /// A run of open actions with one somewhere that is not open, for this reason.
 pub fn run(random: &mut Random, closed: Closed) -> Case {
-    loop {
+    for _ in 0..TRIES {
         let n = nodes(random);
         let style = Style::random(random, n);
         let bus = Bus::fresh(n).expect("n from 2 to 63");
@@ -191,4 +194,5 @@ pub fn run(random: &mut Random, closed: Closed) -> Case {
         let bytes = file(n, &records);
         return Case { n, records, bytes, end: End::Refused { accepted, number: 7 } };
     }
+    panic!("{closed:?}: no place for it in {TRIES} runs of open actions")
 }
