@@ -32,7 +32,8 @@ pub enum Phase {
     Gapping { node: u8 },
 }
 
-/// "It keeps four marks for each node: won, pending, holder, misled."
+/// "It keeps four marks for each node: won, pending, holder, misled." "The bus keeps one more mark,
+/// set when an Acking node puts out its closing Prefix and cleared when the bus becomes Idle."
 #[derive(Clone, PartialEq, Eq, Debug)]
 pub struct Bus {
     pub n: u8,
@@ -41,6 +42,8 @@ pub struct Bus {
     pub pending: Marks,
     pub holder: Marks,
     pub misled: Marks,
+    /// That one: an acknowledgement has ended in Prefix, and a reply follows.
+    pub concatenated: bool,
     pub nodes: [Node; MOST_NODES],
 }
 
@@ -53,6 +56,7 @@ impl Bus {
         pending: Marks(0),
         holder: Marks(0),
         misled: Marks(0),
+        concatenated: false,
         nodes: [Node::FRESH; MOST_NODES],
     };
 
@@ -136,13 +140,13 @@ impl Bus {
         Ok(Some(Reported { node, report: Report::Won }))
     }
 
-    /// Kind 3: "in Answering → Acking." It has no condition on the bus.
+    /// Kind 3: "in Answering → Acking." Of the bus it asks one thing: "While [the mark] is set,
+    /// respond with hold 1 is not open."
     fn respond(&mut self, node: u8, ack: u8, hold: bool) -> Outcome {
-        let record = self.node_mut(node);
-        if record.mode != Mode::Answering {
+        if self.node(node).mode != Mode::Answering || hold && self.concatenated {
             return Err(Refusal::NotOpen);
         }
-        record.mode = Mode::Acking { step: 0, ack, hold };
+        self.node_mut(node).mode = Mode::Acking { step: 0, ack, hold };
         Ok(None)
     }
 
@@ -188,7 +192,11 @@ impl Bus {
                     (0, _) => (Signal::Start, next),
                     (1, _) => (Signal::Ack(ack, Check::Good), next),
                     (_, false) => (Signal::End, Mode::Rest),
-                    (_, true) => (Signal::Prefix, Mode::Holding),
+                    // The mark is "set when an Acking node puts out its closing Prefix".
+                    (_, true) => {
+                        self.concatenated = true;
+                        (Signal::Prefix, Mode::Holding)
+                    }
                 }
             }
             _ => return Err(Refusal::NotOpen),
@@ -317,7 +325,13 @@ impl Bus {
         };
         let report = self.receive(node, Signal::Gap);
         let next = node + 1;
-        self.phase = if next < self.n { Phase::Gapping { node: next } } else { Phase::Idle };
+        if next < self.n {
+            self.phase = Phase::Gapping { node: next };
+        } else {
+            // The mark is "cleared when the bus becomes Idle".
+            self.phase = Phase::Idle;
+            self.concatenated = false;
+        }
         Ok(report)
     }
 

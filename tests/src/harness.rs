@@ -1,6 +1,6 @@
 //! What is done with the model: run files and texts made at random, the programs `play`, `compose`
-//! and `list` held against it, sample runs checked, demand 3 watched, one transaction walked through
-//! whole, and figures taken.
+//! and `list` held against it, sample runs checked, demand 3 watched, one transaction and its reply
+//! walked through whole, and figures taken.
 
 pub mod bench;
 pub mod child;

@@ -1,5 +1,6 @@
 //! The model written apart: an independent reference model of the IEEE 1394 rehearsal bench,
-//! written from document 01 and the readings of it, and from nothing else.
+//! written from document 01, request 1 of document 02 and the readings of them, and from nothing
+//! else.
 //!
 //! The model itself:
 //! - [`bus`]: signals, node modes, the reception charts, the ten actions, refusals 2 to 7 and 12;

@@ -19,7 +19,7 @@ model fuzz PLAY [--files N] [--seed S]            bytes without a plan
 model compare-text COMPOSE LIST [--files N] [--seed S] [--only K]
                                                   made texts and files, by both programs and by the model
 model runs DIR PLAY COMPOSE LIST                  the sample runs of a directory
-model walk [--n N]                                one transaction, every way it can go
+model walk [--n N]                                one transaction and its reply, every way they can go
 model generate mixed|broadcast|transaction [--n N] [--actions N] [--seed S]
                                                   a run file that plays to its end
 model bench PLAY [--kind KIND] [--actions N] [--rounds N] [--factor N] [--seed S]

@@ -13,14 +13,6 @@ fn play(bus: &mut Bus, records: &[Record]) -> Vec<Option<Reported>> {
     records.iter().map(|record| bus.step(record).expect("open")).collect()
 }
 
-/// Case B up to the respond, with hold 1 instead, and its three clocks and passes.
-fn held() -> Vec<Record> {
-    let mut run = case_b();
-    run[15] = respond(1, 1, 1);
-    run.truncate(22);
-    run
-}
-
 #[test]
 fn arbitrate_is_lost_unless_idle_and_not_won() {
     let mut bus = after(2, &[request(0, 1, 0, 0), request(1, 0, 0, 0)]);
@@ -76,7 +68,7 @@ fn end_ends_the_holding_and_prefix_does_not() {
     let bus = after(2, &held());
     assert!(bus.holder.only(1, 2));
     assert_eq!(bus.nodes[1].mode, Mode::Holding);
-    assert_eq!(bus.nodes[0].mode, Mode::Wait);
+    assert_eq!(bus.nodes[0].mode, Mode::Listening);
     assert_eq!(bus.phase, Phase::Busy);
 }
 
@@ -99,20 +91,207 @@ fn a_request_from_holding_leaves_the_buffer() {
     assert_eq!(bus.nodes[1], Node { mode: Mode::Sending { step: 0 }, buffer: waiting, sending });
     play(&mut bus, &[clock(1), pass()].repeat(6));
     assert_eq!(bus.nodes[1], Node { mode: Mode::AwaitAck, buffer: waiting, sending });
-    // Node 0 waits for the gap: it has not received that packet.
-    assert_eq!(play(&mut bus, &[gap(), gap()]), [None, said(1, Report::Miss)]);
+    play(&mut bus, &replied()[35..]);
     assert_eq!(bus.nodes[1], Node { mode: Mode::Rest, buffer: waiting, sending });
+    assert_eq!(bus.phase, Phase::Idle);
+}
+
+/// "a concatenated response in IEEE 1394 is meant to be received"
+#[test]
+fn the_requester_hears_the_reply() {
+    let text = printed(2, &replied());
+    let reply = "\
+21 5 0 ack 1
+22 1 -
+23 4 -
+24 5 -
+25 4 -
+26 5 -
+27 4 -
+28 5 -
+29 4 -
+30 5 -
+31 4 -
+32 5 -
+33 4 -
+34 5 0 good 3 4
+35 8 -
+36 3 -
+37 4 -
+38 5 -
+39 4 -
+40 5 -
+41 4 -
+42 5 1 ack 7
+43 9 -
+44 9 -
+done 45
+";
+    assert!(text.ends_with(reply), "{text}");
 }
 
 #[test]
-fn a_broadcast_from_holding_is_sent() {
+fn a_reply_to_all_nodes_is_heard() {
     let mut run = held();
     run.push(request(1, 63, 3, 4));
     let mut bus = after(2, &run);
     let reports = play(&mut bus, &[clock(1), pass()].repeat(6));
     assert_eq!(reports[10], said(1, Report::Sent));
-    assert_eq!(reports[11], None, "received by nobody");
+    assert_eq!(reports[11], said(0, Report::Broad { header: 3, data: 4 }));
     assert_eq!(bus.phase, Phase::Gapping { node: 0 });
+}
+
+/// A reply whose Header, Data or Ack does not come through.
+#[test]
+fn a_damaged_reply_is_missed() {
+    for damage in [lose(), change(0)] {
+        // The Header, at 30: node 0 owes an answer, and gives the bus back.
+        let mut run = replied();
+        run[30] = damage;
+        run.truncate(35);
+        let mut bus = after(2, &run);
+        assert_eq!(bus.nodes[0].mode, Mode::Owed);
+        let reports = play(&mut bus, &[grant(), clock(0), gap(), gap()]);
+        assert_eq!(reports, [None, None, None, said(1, Report::Miss)]);
+        // The Ack, at 40: node 1 hears of it at the End.
+        let mut run = replied();
+        run[40] = damage;
+        assert!(printed(2, &run).ends_with("\n41 4 -\n42 5 1 miss\n43 9 -\n44 9 -\ndone 45\n"));
+    }
+    // The Data, at 32: bad ones are told and acknowledged, lost ones are not.
+    let mut run = replied();
+    run[32] = change(0);
+    let text = printed(2, &run);
+    assert!(text.contains("\n34 5 0 dcrc 3\n") && text.contains("\n42 5 1 ack 7\n"), "{text}");
+    run[32] = lose();
+    run.truncate(35);
+    assert_eq!(after(2, &run).nodes[0].mode, Mode::Owed);
+}
+
+/// A requester that got no good Ack waits for the gap, and sleeps through the reply.
+#[test]
+fn without_its_acknowledgement_the_requester_does_not_listen() {
+    for damage in [lose(), change(0)] {
+        let mut run = replied();
+        run[19] = damage;
+        run.truncate(35);
+        let mut bus = after(2, &run);
+        assert!(printed(2, &run[..22]).ends_with("\n21 5 0 miss\ndone 22\n"));
+        assert_eq!(bus.nodes[0].mode, Mode::Wait);
+        assert_eq!(bus.phase, Phase::Gapping { node: 0 });
+        assert_eq!(play(&mut bus, &[gap(), gap()]), [None, said(1, Report::Miss)]);
+    }
+}
+
+/// Node 2 has heard an acknowledgement that was not for it, and is in Wait.
+#[test]
+fn the_reply_reaches_the_requester_alone() {
+    let mut run = vec![request(0, 1, 5, 6), arbitrate(0)];
+    run.extend([clock(0), pass(), pass()].repeat(6));
+    run.extend([grant(), respond(1, 1, 1)]);
+    run.extend([clock(1), pass(), pass()].repeat(3));
+    let bus = after(3, &run);
+    let modes = [Mode::Listening, Mode::Holding, Mode::Wait];
+    assert_eq!([0, 1, 2].map(|node| bus.nodes[node].mode), modes);
+    // To all nodes: told at node 0, and not at node 2.
+    let mut to_all = bus.clone();
+    play(&mut to_all, &[request(1, 63, 3, 4)]);
+    let reports = play(&mut to_all, &[clock(1), pass(), pass()].repeat(6));
+    let broad = said(0, Report::Broad { header: 3, data: 4 });
+    assert_eq!(reports[15..], [said(1, Report::Sent), broad, None]);
+    // To node 2: nobody takes it.
+    let mut to_other = bus;
+    play(&mut to_other, &[request(1, 2, 3, 4)]);
+    let reports = play(&mut to_other, &[clock(1), pass(), pass()].repeat(6));
+    assert_eq!(reports, [None; 18]);
+    let reports = play(&mut to_other, &[gap(), gap(), gap()]);
+    assert_eq!(reports, [None, said(1, Report::Miss), None]);
+}
+
+/// The mark after each of these actions on this bus.
+fn marks(bus: &mut Bus, records: &[Record]) -> Vec<bool> {
+    let mark = |record| {
+        play(bus, &[record]);
+        bus.concatenated
+    };
+    records.iter().copied().map(mark).collect()
+}
+
+/// "set when an Acking node puts out its closing Prefix and cleared when the bus becomes Idle"
+#[test]
+fn from_the_closing_prefix_to_idle_the_mark_is_set() {
+    let run = replied();
+    let seen = marks(&mut Bus::fresh(2).unwrap(), &run);
+    // The Prefix is put out at 20; the last gap is at 44.
+    let expected: Vec<bool> = (0..45).map(|index| (20..44).contains(&index)).collect();
+    assert_eq!(seen, expected);
+    // An acknowledgement that ends in End sets no mark.
+    let seen = marks(&mut Bus::fresh(2).unwrap(), &case_b());
+    assert_eq!(seen, [false; 24]);
+}
+
+#[test]
+fn a_filler_sets_no_mark() {
+    // In Answering, in a run and on a state handed in; in Holding, with the mark clear.
+    let mut bus = after(2, &case_b()[..15]);
+    assert_eq!(marks(&mut bus, &[clock(1), pass(), clock(1), pass()]), [false; 4]);
+    let mut bus = Bus { phase: Phase::Busy, ..Bus::fresh(2).unwrap() };
+    bus.holder.set(1);
+    for mode in [Mode::Answering, Mode::Holding] {
+        bus.nodes[1].mode = mode;
+        assert_eq!(marks(&mut bus, &[clock(1), pass()]), [false; 2]);
+    }
+    // Nor do the Start and the Ack of an acknowledgement that will end in Prefix.
+    bus.nodes[1].mode = Mode::Acking { step: 0, ack: 1, hold: true };
+    let acknowledgement = [clock(1), pass()].repeat(3);
+    assert_eq!(marks(&mut bus, &acknowledgement), [false, false, false, false, true, true]);
+}
+
+#[test]
+fn only_the_gap_that_makes_the_bus_idle_clears_the_mark() {
+    // Set on a state handed in, it stays until then, whatever is played.
+    let mut bus = Bus { concatenated: true, ..Bus::fresh(2).unwrap() };
+    let mut expected = [true; 24];
+    expected[23] = false;
+    assert_eq!(marks(&mut bus, &case_b()), expected);
+    // A reset finds the bus Idle: it does not become so.
+    bus.concatenated = true;
+    assert_eq!(marks(&mut bus, &[request(0, 1, 0, 0), reset()]), [true; 2]);
+    // The End of a Spurious node, and all gaps but the last.
+    let mut bus = Bus { phase: Phase::Busy, concatenated: true, ..Bus::fresh(3).unwrap() };
+    bus.holder.set(0);
+    bus.nodes[0].mode = Mode::Spurious;
+    assert_eq!(marks(&mut bus, &[clock(0), gap(), gap(), gap()]), [true, true, true, false]);
+    // A bus that gaps from its last node on.
+    let mut bus = Bus { phase: Phase::Gapping { node: 2 }, concatenated: true, ..bus };
+    assert_eq!(marks(&mut bus, &[gap()]), [false]);
+}
+
+/// "While it is set, respond with hold 1 is not open."
+#[test]
+fn a_reply_is_not_answered_by_a_reply() {
+    let bus = after(2, &replied()[..36]);
+    assert_eq!(bus.nodes[0].mode, Mode::Answering);
+    assert_eq!(bus.clone().step(&respond(0, 7, 1)).unwrap_err().number(), 7);
+    assert_eq!(bus.clone().step(&respond(0, 7, 0)), Ok(None));
+    // It is a mark of the bus: it closes this to every node, and is all that does.
+    let mut bus = Bus { concatenated: true, ..Bus::fresh(3).unwrap() };
+    for node in [0, 1, 2] {
+        bus.nodes[usize::from(node)].mode = Mode::Answering;
+        assert_eq!(bus.clone().step(&respond(node, 7, 1)).unwrap_err().number(), 7);
+        assert_eq!(bus.clone().step(&respond(node, 7, 0)), Ok(None));
+        let mut clear = Bus { concatenated: false, ..bus.clone() };
+        assert_eq!(clear.step(&respond(node, 7, 1)), Ok(None));
+        let acking = Mode::Acking { step: 0, ack: 7, hold: true };
+        assert_eq!(clear.nodes[usize::from(node)].mode, acking);
+    }
+    // The next transaction may hold again.
+    let mut run = replied();
+    run.push(reset());
+    run.extend(held());
+    let bus = after(2, &run);
+    assert!(bus.concatenated);
+    assert_eq!(bus.nodes[0].mode, Mode::Listening);
 }
 
 #[test]
@@ -122,7 +301,7 @@ fn fillers_in_answering_and_holding() {
     play(&mut bus, &[clock(1)]);
     assert_eq!(bus.phase, Phase::Delivering { sender: 1, signal: Signal::Prefix, receiver: 0 });
     assert_eq!(bus.nodes[1].mode, Mode::Answering);
-    // Respond has no condition on the bus.
+    // A respond need not wait for the passes of a filler.
     play(&mut bus, &[respond(1, 2, 0), pass()]);
     assert_eq!(bus.nodes[0].mode, Mode::AwaitAck, "Prefix stay");
     assert_eq!(bus.nodes[1].mode, Mode::Acking { step: 0, ack: 2, hold: false });
@@ -130,6 +309,7 @@ fn fillers_in_answering_and_holding() {
     let mut bus = after(2, &held());
     play(&mut bus, &[clock(1), pass(), clock(1)]);
     assert_eq!(bus.nodes[1].mode, Mode::Holding);
+    assert_eq!(bus.nodes[0].mode, Mode::Listening, "Prefix stay");
     // A request from Holding while a Prefix is under way.
     play(&mut bus, &[request(1, 63, 3, 4), pass()]);
     assert_eq!(bus.nodes[1].mode, Mode::Sending { step: 0 });

@@ -1,4 +1,4 @@
-//! "What a node does with a signal": all 322 cells, as a table written by hand from the rows.
+//! "What a node does with a signal": all 336 cells, as a table written by hand from the rows.
 
 use bench_model::bus::{Check, Effect, Mode, Packet, Report, Signal};
 
@@ -35,7 +35,7 @@ const TABLE: &str = "
 Rest      Opened . . . . . . . . . . . . .
 AwaitAck  AckBody Wait!miss . Rest!miss Wait!miss Wait!miss Wait!miss Wait!miss Wait!miss Wait!miss Wait!miss Wait!miss Wait!miss Wait!miss
 AckBody   Wait!miss Wait!miss Wait!miss Rest!miss AckEnd- AckEnd- AckEnd- AckEnd- AckEnd- AckEnd- AckEnd- AckEnd- AckEnd AckEnd-
-AckEnd    Wait!miss Wait!ack Wait!ack Rest!miss Wait!miss Wait!miss Wait!miss Wait!miss Wait!miss Wait!miss Wait!miss Wait!miss Wait!miss Wait!miss
+AckEnd    Wait!miss Wait!ack Listening!ack Rest!miss Wait!miss Wait!miss Wait!miss Wait!miss Wait!miss Wait!miss Wait!miss Wait!miss Wait!miss Wait!miss
 AckEnd-   Wait!miss Wait!miss Wait!miss Rest!miss Wait!miss Wait!miss Wait!miss Wait!miss Wait!miss Wait!miss Wait!miss Wait!miss Wait!miss Wait!miss
 Opened    Wait Wait Wait Rest Addressed Addressed Addressed Addressed Addressed Addressed Addressed Addressed Addressed Addressed
 Addressed Wait Wait Wait Rest Wait HeadOwn+ HeadAll Wait Wait Wait Wait Wait Wait Wait
@@ -55,6 +55,7 @@ Answering . . . . . . . . . . . . . .
 Acking    . . . . . . . . . . . . . .
 Holding   . . . . . . . . . . . . . .
 Spurious  . . . . . . . . . . . . . .
+Listening Opened Wait . Rest Wait Wait Wait Wait Wait Wait Wait Wait Wait Wait
 ";
 
 fn mode(name: &str) -> Mode {
@@ -82,6 +83,7 @@ fn mode(name: &str) -> Mode {
         "Acking" => Mode::Acking { step: 1, ack: A, hold: true },
         "Holding" => Mode::Holding,
         "Spurious" => Mode::Spurious,
+        "Listening" => Mode::Listening,
         _ => panic!("{name} is no mode"),
     }
 }
@@ -120,7 +122,7 @@ fn every_cell() {
             cells += 1;
         }
     }
-    assert_eq!(cells, 322);
+    assert_eq!(cells, 336);
 }
 
 #[test]

@@ -3,6 +3,7 @@
 mod common;
 
 use bench_model::bus::{Bus, Mode, Phase, Record};
+use bench_model::harness::forward::{self, Choice};
 use bench_model::harness::generate::{self, Kind};
 use bench_model::harness::random::Random;
 use bench_model::harness::walk;
@@ -31,11 +32,37 @@ fn marked_cases_pass() {
     watched(63, &[Record::default(); 3]).unwrap();
 }
 
+/// One reply after each win; with the next win the count begins again.
+#[test]
+fn replies_pass() {
+    let watch = watched(2, &[replied(), vec![reset()], replied()].concat()).unwrap();
+    assert_eq!(watch.bus.phase, Phase::Idle);
+}
+
 #[test]
 fn a_node_that_does_not_rest_is_seen() {
     let mut watch = watched(2, &case_b()).unwrap();
     watch.bus.nodes[1].mode = Mode::Wait;
     assert!(watch.look().unwrap_err().contains("does not rest"));
+}
+
+#[test]
+fn a_mark_on_an_idle_bus_is_seen() {
+    let mut watch = watched(2, &replied()).unwrap();
+    watch.bus.concatenated = true;
+    assert!(watch.look().unwrap_err().contains("mark of a reply"));
+}
+
+#[test]
+fn a_second_reply_is_seen() {
+    let mut watch = watched(2, &replied()[..36]).unwrap();
+    // Without its mark the bus lets node 0 hold too.
+    watch.bus.concatenated = false;
+    watch.step(&respond(0, 7, 1)).unwrap().unwrap();
+    for record in [clock(0), pass()].repeat(3) {
+        watch.step(&record).unwrap().unwrap();
+    }
+    assert!(watch.step(&request(0, 1, 8, 9)).unwrap_err().contains("second reply"));
 }
 
 #[test]
@@ -108,34 +135,80 @@ fn a_false_acknowledgement_is_seen() {
     before_ack().step(&pass()).unwrap().unwrap();
 }
 
+/// The same of a reply: it belongs to node 1's request, and node 0 must have been told of it.
+#[test]
+fn a_false_acknowledgement_of_a_reply_is_seen() {
+    let before_ack = || watched(2, &replied()[..42]).unwrap();
+    let mut watch = before_ack();
+    watch.bus.nodes[1].mode = Mode::AckEnd { good: Some(1) };
+    assert!(watch.step(&pass()).unwrap_err().contains("the respond is"));
+    // Told of another packet: of the request that it answers.
+    let mut watch = watched(2, &replied()[..34]).unwrap();
+    watch.bus.nodes[0].mode = Mode::TailOwn { header: 5, data: Some(6) };
+    for record in &replied()[34..42] {
+        watch.step(record).unwrap().unwrap();
+    }
+    assert!(watch.step(&pass()).unwrap_err().contains("not of the packet"));
+    // Never told of the reply.
+    let mut watch = watched(2, &replied()[..34]).unwrap();
+    watch.bus.nodes[1].mode = Mode::AckEnd { good: Some(1) };
+    watch.bus.phase =
+        Phase::Delivering { sender: 0, signal: bench_model::bus::Signal::End, receiver: 1 };
+    assert!(watch.step(&pass()).unwrap_err().contains("0 times told"));
+    // As it should be.
+    before_ack().step(&pass()).unwrap().unwrap();
+}
+
 /// A request from Holding starts at once; one in the buffer meanwhile starts with `won`.
 #[test]
 fn starts_at_once_or_with_won() {
     let mut run = vec![request(1, 0, 8, 9)];
-    run.extend(case_b());
-    run[16] = respond(1, 1, 1);
-    run.truncate(23);
-    run.push(request(1, 0, 3, 4));
+    run.extend(replied());
+    run.push(arbitrate(1));
     run.extend([clock(1), pass()].repeat(6));
-    run.extend([gap(), gap(), arbitrate(1)]);
-    run.extend([clock(1), pass()].repeat(6));
-    run.extend([grant(), respond(0, 7, 0)]);
+    run.extend([grant(), respond(0, 9, 0)]);
     run.extend([clock(0), pass()].repeat(3));
     run.extend([gap(), gap()]);
     let watch = watched(2, &run).unwrap();
     assert_eq!(watch.bus.phase, Phase::Idle);
     let text = printed(2, &run);
-    assert!(text.contains(" 9 1 miss\n") && text.contains(" 2 1 won\n"), "{text}");
-    assert!(text.contains(" 5 1 ack 7\n"), "{text}");
+    let reports: Vec<&str> = text.lines().filter(|line| line.split(' ').count() > 3).collect();
+    let expected = [
+        "2 2 0 won",
+        "14 5 1 good 5 6",
+        "22 5 0 ack 1",
+        "35 5 0 good 3 4",
+        "43 5 1 ack 7",
+        "46 2 1 won",
+        "58 5 0 good 8 9",
+        "66 5 1 ack 9",
+    ];
+    assert_eq!(reports, expected);
 }
 
 #[test]
-fn the_longest_way_is_18n_less_1() {
+fn the_longest_way_is_21n_plus_1() {
     let text = walk::walk(2).unwrap();
-    assert!(text.ends_with("longest way of forward actions to Idle 35\n"), "{text}");
+    assert!(text.ends_with("longest way of forward actions to Idle 43\n"), "{text}");
     let text = walk::walk(3).unwrap();
-    assert!(text.ends_with("longest way of forward actions to Idle 53\n"), "{text}");
-    assert!(text.contains("61 of 322 cells"), "{text}");
+    assert!(text.ends_with("longest way of forward actions to Idle 64\n"), "{text}");
+    assert!(text.contains("63 of 336 cells"), "{text}");
+}
+
+/// From the win of a request to another node, the longest continuation is as long as that.
+#[test]
+fn the_longest_continuation_is_21n_plus_1() {
+    for n in [2, 3, 8, 63] {
+        let mut watch = watched(n, &[request(0, 1, 5, 6), arbitrate(0)]).unwrap();
+        let mut random = Random::new(7);
+        let mut taken = 0;
+        while let Some(action) = forward::choose(&watch.bus, Choice::Longest, &mut random) {
+            watch.step(&action.into()).unwrap().unwrap();
+            taken += 1;
+        }
+        assert_eq!(watch.bus.phase, Phase::Idle);
+        assert_eq!(taken, 21 * usize::from(n) + 1);
+    }
 }
 
 #[test]

@@ -38,6 +38,7 @@ fn examples_of_the_table() {
 #[test]
 fn a_refused_fresh_bus_is_like_a_fresh_one_of_none() {
     assert_eq!(Bus::REFUSED, Bus { n: 0, ..fresh(2) });
+    assert!(!fresh(2).concatenated);
 }
 
 /// Every condition at once, then one less each time: the lowest that is left counts.
@@ -67,6 +68,24 @@ fn in_order_from_12_to_7() {
     assert_eq!(refused(&fresh(2), Record { node: 1, ack: 15, ..respond }), 6);
     assert_eq!(refused(&fresh(2), Record { node: 1, ack: 16, hold: 1, ..respond }), 6);
     assert_eq!(refused(&fresh(2), Record { node: 1, ack: 15, hold: 1, ..respond }), 7);
+}
+
+/// The same where nothing but the mark closes the action: node 0 answers a reply.
+#[test]
+fn in_order_from_12_to_7_while_the_mark_is_set() {
+    let answering = after(2, &replied()[..36]);
+    let mut no_state = answering.clone();
+    no_state.nodes[1].sending.address = 2;
+    let held = respond(0, 15, 1);
+    assert_eq!(refused(&no_state, held), 12);
+    assert_eq!(refused(&answering, Record { kind: 11, ..held }), 2);
+    assert_eq!(refused(&answering, Record { zeros: [0, 1, 0], ..held }), 3);
+    assert_eq!(refused(&answering, Record { address: 2, ..held }), 3);
+    assert_eq!(refused(&answering, Record { node: 2, ..held }), 4);
+    assert_eq!(refused(&answering, Record { ack: 16, ..held }), 6);
+    assert_eq!(refused(&answering, Record { hold: 2, ..held }), 6);
+    assert_eq!(refused(&answering, held), 7);
+    assert_eq!(answering.clone().step(&Record { hold: 0, ..held }), Ok(None));
 }
 
 #[test]
@@ -252,10 +271,17 @@ fn no_state() {
         with_node(Mode::Acking { step: 2, ack: 15, hold: true }),
         with_node(Mode::AckEnd { good: Some(15) }),
         with_node(Mode::AckEnd { good: None }),
+        with_node(Mode::Listening),
+        Bus { phase: Phase::Busy, ..fresh(3) },
+        Bus { phase: Phase::Granting, ..fresh(3) },
     ];
     for state in states {
         assert!(state.is_state());
         assert_eq!(refused(&state, Record::default()), 2);
+        // Of the bus's own mark 12 says nothing, whatever the phase.
+        let marked = Bus { concatenated: true, ..state };
+        assert!(marked.is_state());
+        assert_eq!(refused(&marked, Record::default()), 2);
     }
 }
 

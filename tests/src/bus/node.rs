@@ -85,6 +85,8 @@ pub enum Mode {
     /// (7)
     Holding,
     Spurious,
+    /// Acknowledged, and a reply follows.
+    Listening,
 }
 
 /// What a reception does beside the node's mode.
@@ -124,10 +126,12 @@ impl Mode {
                 Ack(ack, Check::Good) => quiet(AckEnd { good: Some(ack) }),
                 _ => quiet(AckEnd { good: None }),
             },
-            // "AckEnd: End or Prefix after a good Ack: report ack a, Wait; Gap: miss, Rest;
-            // else miss, Wait."
+            // "AckEnd: End […] after a good Ack: report ack a, Wait; Gap: miss, Rest; else miss,
+            // Wait." "From AckEnd, Prefix after a good Ack now reports ack and goes to a new mode
+            // Listening".
             AckEnd { good } => match (signal, good) {
-                (End | Prefix, Some(ack)) => report(Wait, Report::Ack(ack)),
+                (End, Some(ack)) => report(Wait, Report::Ack(ack)),
+                (Prefix, Some(ack)) => report(Listening, Report::Ack(ack)),
                 (Gap, _) => report(Rest, Report::Miss),
                 _ => report(Wait, Report::Miss),
             },
@@ -192,6 +196,13 @@ impl Mode {
             Owed | Sending { .. } | Told | Answering | Acking { .. } | Holding | Spurious => {
                 quiet(self)
             }
+            // "Listening: Start → Opened, Prefix stay, Gap → Rest, else Wait."
+            Listening => match signal {
+                Start => quiet(Opened),
+                Prefix => quiet(Listening),
+                Gap => quiet(Rest),
+                _ => quiet(Wait),
+            },
         }
     }
 }

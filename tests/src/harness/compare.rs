@@ -126,7 +126,7 @@ fn watch(case: &Case, random: &mut Random, tally: &mut Tally) -> Result<(), Stri
     Ok(())
 }
 
-/// "however these are chosen, one after the other, it is idle after at most 18n"
+/// "however these are chosen, one after the other, it is idle after at most" 21n + 2
 fn go_on(mut watch: Watch, random: &mut Random, tally: &mut Tally) -> Result<(), String> {
     let choice = random.pick(&[
         Choice::Longest,
@@ -134,7 +134,7 @@ fn go_on(mut watch: Watch, random: &mut Random, tally: &mut Tally) -> Result<(),
         Choice::Random { faults: 10 },
         Choice::Random { faults: 50 },
     ]);
-    let most = 18 * usize::from(watch.bus.n);
+    let most = 21 * usize::from(watch.bus.n) + 2;
     let mut taken: Vec<Record> = Vec::new();
     while watch.bus.phase != Phase::Idle {
         if taken.len() == most {

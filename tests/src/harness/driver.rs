@@ -1,6 +1,7 @@
 //! Drives a bus at random: each time some open action, of every kind, so that a run goes on for as
 //! long as is wanted.
 
+use super::forward::listener;
 use super::random::Random;
 use crate::bus::{Action, Bus, Mode, Outcome, Packet, Phase, Signal, ALL_NODES};
 
@@ -17,8 +18,10 @@ pub struct Style {
     pub fault: u64,
     /// A filler clock, where one is open.
     pub filler: u64,
-    /// A respond with hold 1.
+    /// A respond with hold 1, where one is open.
     pub hold: u64,
+    /// A reply to the node that listens for it.
+    pub to_listener: u64,
     /// A request to all nodes.
     pub broadcast: u64,
 }
@@ -32,6 +35,7 @@ impl Style {
         fault: 2,
         filler: 20,
         hold: 30,
+        to_listener: 75,
         broadcast: 25,
     };
 
@@ -49,6 +53,7 @@ impl Style {
             fault: random.pick(&faults),
             filler: random.pick(&[0, 10, 40]),
             hold: random.pick(&[10, 50, 90]),
+            to_listener: random.pick(&[0, 50, 90]),
             broadcast: random.pick(&[5, 20, 60]),
         }
     }
@@ -104,6 +109,23 @@ impl Driver {
         Action::Request { node, packet: self.packet() }
     }
 
+    /// A request from Holding.
+    fn reply(&mut self, node: u8) -> Action {
+        let packet = self.packet();
+        match listener(&self.bus) {
+            Some(address) if self.random.percent(self.style.to_listener) => {
+                Action::Request { node, packet: Packet { address, ..packet } }
+            }
+            _ => Action::Request { node, packet },
+        }
+    }
+
+    fn respond(&mut self, node: u8) -> Action {
+        let ack = self.random.below(16) as u8;
+        let hold = !self.bus.concatenated && self.random.percent(self.style.hold);
+        Action::Respond { node, ack, hold }
+    }
+
     fn aside(&mut self) -> Action {
         let node = self.any_node();
         if self.random.percent(40) {
@@ -141,15 +163,11 @@ impl Driver {
             None => return self.aside(),
         };
         match self.bus.node(node).mode {
-            Mode::Answering if !self.random.percent(self.style.filler) => Action::Respond {
-                node,
-                ack: self.random.below(16) as u8,
-                hold: self.random.percent(self.style.hold),
-            },
+            Mode::Answering if !self.random.percent(self.style.filler) => self.respond(node),
             Mode::Holding
                 if !(holders.only(node, self.bus.n) && self.random.percent(self.style.filler)) =>
             {
-                self.request(node)
+                self.reply(node)
             }
             _ => Action::Clock { node },
         }
@@ -176,12 +194,8 @@ impl Driver {
             }
             // Now and then while the closing Prefix, or a filler, is still under way.
             Signal::Prefix if self.random.percent(10) => match self.bus.pick_holder(0) {
-                Some(node) if self.bus.node(node).mode == Mode::Holding => self.request(node),
-                Some(node) if self.bus.node(node).mode == Mode::Answering => Action::Respond {
-                    node,
-                    ack: self.random.below(16) as u8,
-                    hold: self.random.percent(self.style.hold),
-                },
+                Some(node) if self.bus.node(node).mode == Mode::Holding => self.reply(node),
+                Some(node) if self.bus.node(node).mode == Mode::Answering => self.respond(node),
                 _ => Action::Pass,
             },
             _ => Action::Pass,

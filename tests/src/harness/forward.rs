@@ -45,7 +45,8 @@ fn all_sorts(bus: &Bus) -> Vec<Action> {
 pub enum Choice {
     /// At random, with so many faults in a hundred.
     Random { faults: u64 },
-    /// As long as it can be made: every Dest misleads its receiver, every respond holds.
+    /// As long as it can be made: every Dest misleads its receiver, every respond holds if it may,
+    /// every reply is for the node that listens.
     Longest,
 }
 
@@ -84,6 +85,11 @@ pub fn choose(bus: &Bus, choice: Choice, random: &mut Random) -> Option<Action> 
     choices.into_iter().find(|&action| bus.is_forward(action) && bus.is_open(action))
 }
 
+/// The node that listens for a reply, if one does.
+pub fn listener(bus: &Bus) -> Option<u8> {
+    (0..bus.n).find(|&node| bus.node(node).mode == Mode::Listening)
+}
+
 /// What the holders can do, in some order.
 fn at_holders(bus: &Bus, choice: Choice, random: &mut Random) -> Vec<Action> {
     let longest = matches!(choice, Choice::Longest);
@@ -94,11 +100,14 @@ fn at_holders(bus: &Bus, choice: Choice, random: &mut Random) -> Vec<Action> {
             Mode::Answering => Action::Respond {
                 node,
                 ack: random.below(16) as u8,
-                hold: longest || random.percent(50),
+                hold: !bus.concatenated && (longest || random.percent(50)),
             },
             Mode::Holding => {
                 let other = random.below(bus.n.into()) as u8;
-                let address = random.pick(&[other, other, ALL_NODES]);
+                let address = match listener(bus) {
+                    Some(listener) if longest || random.percent(50) => listener,
+                    _ => random.pick(&[other, other, ALL_NODES]),
+                };
                 let packet = Packet { address, header: random.word(), data: random.word() };
                 Action::Request { node, packet }
             }

@@ -13,7 +13,7 @@ const REFUSALS: [u8; 11] = [1, 2, 3, 4, 5, 6, 7, 8, 9, 10, 11];
 const REPORTS: [&str; 8] = ["won", "lost", "sent", "ack", "miss", "good", "dcrc", "broad"];
 
 /// The modes, those with a good and a bad case taken apart.
-const MODES: [&str; 23] = [
+const MODES: [&str; 24] = [
     "Rest",
     "Sending",
     "AwaitAck",
@@ -37,11 +37,12 @@ const MODES: [&str; 23] = [
     "Acking",
     "Holding",
     "Spurious",
+    "Listening",
 ];
 
 const SIGNALS: usize = 14;
 
-const EVENTS: [&str; 17] = [
+const EVENTS: [&str; 37] = [
     "Dest changed",
     "Header lost",
     "Header changed",
@@ -59,6 +60,26 @@ const EVENTS: [&str; 17] = [
     "lost by the won mark",
     "reset",
     "several holders",
+    "reply begun while the Prefix is under way",
+    "reply's Prefix heard in Listening",
+    "reply's Dest changed",
+    "reply's Header lost",
+    "reply's Header changed",
+    "reply's Header bad for a misled node",
+    "reply's Data lost",
+    "reply's Data changed",
+    "reply sent",
+    "reply told good",
+    "reply told dcrc",
+    "reply told broad",
+    "reply's filler clock in Answering",
+    "reply's respond",
+    "reply's Spurious clock",
+    "reply's Ack lost",
+    "reply's Ack changed",
+    "reply acknowledged",
+    "reply missed on End",
+    "reply missed on Gap",
 ];
 
 fn mode_class(mode: Mode) -> usize {
@@ -86,6 +107,7 @@ fn mode_class(mode: Mode) -> usize {
         Mode::Acking { .. } => 20,
         Mode::Holding => 21,
         Mode::Spurious => 22,
+        Mode::Listening => 23,
     }
 }
 
@@ -108,7 +130,7 @@ fn signal_class(signal: Signal, own: u8) -> usize {
     }
 }
 
-/// The cells of the reception chart (mode and signal, 322 of them) that were met.
+/// The cells of the reception chart (mode and signal, 336 of them) that were met.
 #[derive(Clone)]
 pub struct Cells([[bool; SIGNALS]; MODES.len()]);
 
@@ -179,7 +201,7 @@ pub struct Tally {
     pub bytes_compared: u64,
     /// Continuations of forward actions that were followed until idle.
     pub continuations: u64,
-    /// Those that took all but one of the 18n.
+    /// Those that took all but one of the 21n + 2.
     pub longest_continuations: u64,
     refusals: Counts,
     reports: Counts,
@@ -244,7 +266,9 @@ impl Tally {
         }
         if let Ok(action) = record.look(before.n) {
             self.cells.enter(before, action);
-            if let Some(event) = event(before, action, reported) {
+            let event = event(before, action, reported);
+            let of_reply = event_of_reply(before, action, reported);
+            for event in [event, of_reply].into_iter().flatten() {
                 self.enter_event(event);
             }
             if after.holder.nodes(after.n).nth(1).is_some() {
@@ -284,10 +308,10 @@ impl Tally {
             counts.print(&mut text);
         }
         self.print_ways(&mut text);
-        let _ = writeln!(text, "cells of the reception chart met: {} of 322", self.cells.count());
+        let _ = writeln!(text, "cells of the reception chart met: {} of 336", self.cells.count());
         let _ = writeln!(
             text,
-            "{} files, {} actions accepted, {} bytes of text equal; {} continuations idle within 18n, {} of them after 18n - 1",
+            "{} files, {} actions accepted, {} bytes of text equal; {} continuations idle within 21n + 2, {} of them after 21n + 1",
             self.files, self.actions, self.bytes_compared, self.continuations, self.longest_continuations
         );
         text
@@ -367,6 +391,49 @@ fn event(bus: &Bus, action: Action, reported: Option<Reported>) -> Option<&'stat
         }
         (Action::Reset, _) => "reset",
         _ => return None,
+    };
+    Some(event)
+}
+
+/// What it calls the same action where it befalls a reply. The bus's mark is set from the Prefix
+/// that closes an acknowledgement until Idle: after that Prefix, every packet is the reply and every
+/// acknowledgement the reply's. Faults on the way to a node in Wait do not count.
+fn event_of_reply(bus: &Bus, action: Action, reported: Option<Reported>) -> Option<&'static str> {
+    if !bus.concatenated {
+        return None;
+    }
+    let report = reported.map(|reported| reported.report);
+    let (signal, receiver) = match bus.phase {
+        Phase::Delivering { signal, receiver, .. } => (Some(signal), bus.node(receiver).mode),
+        _ => (None, Mode::Wait),
+    };
+    let event = match (action, signal) {
+        (Action::Request { .. }, Some(Signal::Prefix)) if bus.is_forward(action) => {
+            "reply begun while the Prefix is under way"
+        }
+        (Action::Respond { .. }, _) => "reply's respond",
+        (Action::Clock { .. }, _) if report == Some(Report::Sent) => "reply sent",
+        (Action::Clock { node }, _) => match bus.node(node).mode {
+            Mode::Answering => "reply's filler clock in Answering",
+            Mode::Spurious => "reply's Spurious clock",
+            _ => return None,
+        },
+        (Action::Gap, _) if report == Some(Report::Miss) => "reply missed on Gap",
+        (Action::Pass, Some(Signal::End)) => match report? {
+            Report::Good { .. } => "reply told good",
+            Report::Dcrc { .. } => "reply told dcrc",
+            Report::Broad { .. } => "reply told broad",
+            Report::Ack(_) => "reply acknowledged",
+            _ => "reply missed on End",
+        },
+        _ if receiver == Mode::Wait => return None,
+        (Action::Pass, Some(Signal::Prefix)) if receiver == Mode::Listening => {
+            "reply's Prefix heard in Listening"
+        }
+        _ => {
+            let fault = event(bus, action, reported)?;
+            EVENTS.into_iter().find(|name| name.strip_prefix("reply's ") == Some(fault))?
+        }
     };
     Some(event)
 }

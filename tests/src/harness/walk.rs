@@ -1,26 +1,64 @@
-//! `model walk`: one transaction from a fresh bus, walked through whole. Node 0 has a request to
-//! each possible address and wins; then every interleaving of all open actions of kinds 3 to 9 and
-//! of some requests from Holding.
+//! `model walk`: one transaction from a fresh bus and the reply to it, walked through whole. Node 0
+//! has a request to each possible address and wins; then every interleaving of all open actions of
+//! kinds 3 to 9 and of some requests from Holding.
 
 use std::collections::HashMap;
 
 use super::tally::Cells;
 use crate::bus::{Action, Bus, Marks, Mode, Node, Packet, Phase, Report, ALL_NODES};
 
-/// A state, without the records from n on: what is looked up.
+/// A state that was reached, and how many replies were started on the way from the win to it.
+#[derive(Clone, Debug)]
+struct Reached {
+    bus: Bus,
+    replies: u8,
+}
+
+impl Reached {
+    /// What is reached by this action, if it is open. All requests tried are from Holding.
+    fn by(&self, action: Action) -> Option<Reached> {
+        let Reached { mut bus, mut replies } = self.clone();
+        bus.act(action).ok()?;
+        if let Action::Request { .. } = action {
+            replies += 1;
+        }
+        Some(Reached { bus, replies })
+    }
+
+    /// What holds of every state.
+    fn look(&self) -> Result<(), String> {
+        let Reached { bus, replies } = self;
+        let rests = |node| bus.node(node).mode == Mode::Rest;
+        if *replies > 1 {
+            Err(format!("a second reply before the bus is idle: {bus:?}"))
+        } else if bus.phase == Phase::Idle && !(0..bus.n).all(rests) {
+            Err(format!("idle, and not every node rests: {bus:?}"))
+        } else if bus.phase == Phase::Idle && bus.concatenated {
+            Err(format!("idle, and the mark of a reply to follow is set: {bus:?}"))
+        } else {
+            Ok(())
+        }
+    }
+}
+
+/// The same without the records from n on: what is looked up.
 #[derive(PartialEq, Eq, Hash)]
 struct Key {
     phase: Phase,
     marks: [Marks; 4],
+    concatenated: bool,
     nodes: Box<[Node]>,
+    replies: u8,
 }
 
 impl Key {
-    fn of(bus: &Bus) -> Key {
+    fn of(Reached { bus, replies }: &Reached) -> Key {
         Key {
             phase: bus.phase,
             marks: [bus.won, bus.pending, bus.holder, bus.misled],
+            concatenated: bus.concatenated,
             nodes: bus.nodes[..usize::from(bus.n)].into(),
+            replies: *replies,
         }
     }
 }
@@ -38,7 +76,7 @@ enum Known {
 struct Walk {
     known: HashMap<Key, Known>,
     /// States behind filler clocks, to be walked from on their own.
-    behind_fillers: Vec<Bus>,
+    behind_fillers: Vec<Reached>,
     cells: Cells,
 }
 
@@ -73,21 +111,22 @@ fn candidates(bus: &Bus) -> Vec<Action> {
 
 impl Walk {
     /// The longest way of forward actions from here to Idle. Its depth is that way's length.
-    fn longest(&mut self, bus: &Bus) -> Result<u32, String> {
-        match self.known.get(&Key::of(bus)) {
+    fn longest(&mut self, reached: &Reached) -> Result<u32, String> {
+        let bus = &reached.bus;
+        match self.known.get(&Key::of(reached)) {
             Some(Known::Longest(length)) => return Ok(*length),
             Some(Known::Open) => {
                 return Err(format!("forward actions go round in a ring: {bus:?}"))
             }
             None => (),
         }
-        self.known.insert(Key::of(bus), Known::Open);
+        reached.look()?;
+        self.known.insert(Key::of(reached), Known::Open);
         let mut longest = None;
         for action in candidates(bus) {
-            let mut next = bus.clone();
-            if next.act(action).is_err() {
+            let Some(next) = reached.by(action) else {
                 continue;
-            }
+            };
             self.cells.enter(bus, action);
             if bus.is_forward(action) {
                 let length = 1 + self.longest(&next)?;
@@ -101,19 +140,16 @@ impl Walk {
             (Some(length), phase) if phase != Phase::Idle => length,
             _ => return Err(format!("a dead end, or a forward action on an idle bus: {bus:?}")),
         };
-        if bus.phase == Phase::Idle && (0..bus.n).any(|node| bus.node(node).mode != Mode::Rest) {
-            return Err(format!("idle, and not every node rests: {bus:?}"));
-        }
-        self.known.insert(Key::of(bus), Known::Longest(length));
+        self.known.insert(Key::of(reached), Known::Longest(length));
         Ok(length)
     }
 
     /// The longest way from any state reached.
     fn over_all(&mut self, root: Bus) -> Result<u32, String> {
         let mut longest = 0;
-        self.behind_fillers.push(root);
-        while let Some(bus) = self.behind_fillers.pop() {
-            longest = longest.max(self.longest(&bus)?);
+        self.behind_fillers.push(Reached { bus: root, replies: 0 });
+        while let Some(reached) = self.behind_fillers.pop() {
+            longest = longest.max(self.longest(&reached)?);
         }
         Ok(longest)
     }
@@ -146,11 +182,12 @@ pub fn walk(n: u8) -> Result<String, String> {
     }
     let cells = cells.count();
     text += &format!(
-        "n = {n}: {states} states, {cells} of 322 cells met, no dead end, longest way of forward actions to Idle {longest}\n"
+        "n = {n}: {states} states, {cells} of 336 cells met, no dead end, longest way of forward actions to Idle {longest}\n"
     );
-    if longest == 18 * u32::from(n) - 1 {
+    let expected = 21 * u32::from(n) + 1;
+    if longest == expected {
         Ok(text)
     } else {
-        Err(format!("{text}n = {n}: the longest way is not 18n - 1 = {}", 18 * u32::from(n) - 1))
+        Err(format!("{text}n = {n}: the longest way is not 21n + 1 = {expected}"))
     }
 }

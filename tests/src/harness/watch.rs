@@ -53,6 +53,8 @@ pub struct Watch {
     when: usize,
     told: Vec<Told>,
     responds: Vec<Respond>,
+    /// How many requests have started at once since the last `won`.
+    replies: usize,
     books: Vec<Books>,
 }
 
@@ -61,7 +63,7 @@ impl Watch {
     /// returned".
     pub fn new(bus: Bus) -> Watch {
         let books = vec![Books::default(); bus.n.into()];
-        Watch { bus, when: 0, told: Vec::new(), responds: Vec::new(), books }
+        Watch { bus, when: 0, told: Vec::new(), responds: Vec::new(), replies: 0, books }
     }
 
     /// Plays one action and looks at everything that demand 3 says.
@@ -99,6 +101,7 @@ impl Watch {
                 let books = &mut self.books[usize::from(node)];
                 if std::mem::take(&mut books.starts_at_once) {
                     self.start(node, packet);
+                    self.replies += 1;
                 } else if books.waiting.replace(packet).is_some() {
                     return Err(format!("node {node}: one buffer for two waiting requests"));
                 }
@@ -123,6 +126,7 @@ impl Watch {
             self.told.push(Told { when: self.when, node, report });
         }
         if report == Report::Won {
+            self.replies = 0;
             if let Some(packet) = self.books[usize::from(node)].waiting.take() {
                 self.start(node, packet);
             }
@@ -180,6 +184,11 @@ impl Watch {
                 return Err(format!("node {node}: the buffer does not hold the waiting request"));
             }
         }
+        // "While it is set, respond with hold 1 is not open": after a win there is one reply at
+        // most, and none to it.
+        if self.replies > 1 {
+            return Err("a second reply since the last won".into());
+        }
         if self.bus.phase == Phase::Idle {
             self.look_idle()
         } else if forward::some_open(&self.bus) {
@@ -190,8 +199,11 @@ impl Watch {
     }
 
     /// "If it is idle, every node rests, and each accepted request has had exactly one confirmation
-    /// or still waits in its buffer with none."
+    /// or still waits in its buffer with none." And no reply is still to follow.
     fn look_idle(&self) -> Result<(), Violation> {
+        if self.bus.concatenated {
+            return Err("idle, and the mark of a reply to follow is set".into());
+        }
         for (node, books) in (0..self.bus.n).zip(&self.books) {
             if self.bus.node(node).mode != Mode::Rest {
                 return Err(format!("idle, and node {node} does not rest"));

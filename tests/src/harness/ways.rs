@@ -1,5 +1,5 @@
 //! The ways in which files are made: runs of open actions, runs with one wrong action, damaged
-//! files. Each way knows how the file must end, from document 01 and not from the model.
+//! files. Each way knows how the file must end, from the documents and not from the model.
 
 mod closed;
 mod damage;

@@ -63,6 +63,26 @@ pub fn case_b() -> Vec<Record> {
     run
 }
 
+/// Case B up to the last pass, with hold 1 in its respond: the acknowledgement ends in Prefix.
+pub fn held() -> Vec<Record> {
+    let mut run = case_b();
+    run[15] = respond(1, 1, 1);
+    run.truncate(22);
+    run
+}
+
+/// That, then node 1's reply to node 0 (3, 4): told at 34, granted at 35, acknowledged with 7 at 42;
+/// and two gaps.
+pub fn replied() -> Vec<Record> {
+    let mut run = held();
+    run.push(request(1, 0, 3, 4));
+    run.extend([clock(1), pass()].repeat(6));
+    run.extend([grant(), respond(0, 7, 0)]);
+    run.extend([clock(0), pass()].repeat(3));
+    run.extend([gap(), gap()]);
+    run
+}
+
 pub fn printed_file(bytes: &[u8]) -> String {
     String::from_utf8(player::play_file(bytes)).expect("the text is ASCII")
 }

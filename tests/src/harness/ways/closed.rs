@@ -13,6 +13,8 @@ pub enum Closed {
     ArbitrateBufferEmpty,
     ArbitrateOtherMode,
     RespondOtherMode,
+    /// With hold 1, to a reply.
+    RespondHoldsAgain,
     /// Kinds 4 to 10 in a phase that is not theirs.
     Elsewhere {
         kind: u8,
@@ -72,6 +74,7 @@ impl Closed {
             Closed::ArbitrateBufferEmpty,
             Closed::ArbitrateOtherMode,
             Closed::RespondOtherMode,
+            Closed::RespondHoldsAgain,
             Closed::ClockNoHolder,
             Closed::ClockNotOnlyHolder,
             Closed::ChangeToOwnAddress,
@@ -126,6 +129,11 @@ impl Closed {
                 let node = find(&|node| bus.node(node).mode != Mode::Answering)?;
                 Some(Action::Respond { node, ack: random.byte(0, 15), hold: random.percent(50) })
             }
+            Closed::RespondHoldsAgain if bus.concatenated => {
+                let node = find(&|node| bus.node(node).mode == Mode::Answering)?;
+                Some(Action::Respond { node, ack: random.byte(0, 15), hold: true })
+            }
+            Closed::RespondHoldsAgain => None,
             Closed::Elsewhere { kind, phase } if phase_name(bus.phase) == phase => {
                 let node = find(&|node| bus.holder.has(node)).unwrap_or(start);
                 Some(right_action(random, kind, node, packet))
@@ -164,9 +172,12 @@ impl Closed {
     }
 }
 
+/// In how many runs a place is looked for; the rarest reason has one in every few.
+const TRIES: usize = 1000;
+
 /// A run of open actions with one somewhere that is not open, for this reason.
 pub fn run(random: &mut Random, closed: Closed) -> Case {
-    loop {
+    for _ in 0..TRIES {
         let n = nodes(random);
         let style = Style::random(random, n);
         let bus = Bus::fresh(n).expect("n from 2 to 63");
@@ -191,4 +202,5 @@ pub fn run(random: &mut Random, closed: Closed) -> Case {
         let bytes = file(n, &records);
         return Case { n, records, bytes, end: End::Refused { accepted, number: 7 } };
     }
+    panic!("{closed:?}: no place for it in {TRIES} runs of open actions")
 }
