@@ -32,7 +32,7 @@ use Rattle.charts.specs.Signals as S
 use Rattle.charts.specs.Signals.{everybody, classOf, kindOf, ackOf, isEnd}
 use Rattle.charts.specs.Reception.{answer, hears}
 use Rattle.charts.specs.State.{State, setMode, upd, every, some, others, pendings, holders, moved, remarked, fresh}
-use Rattle.charts.specs.Actions.{does, firstOther, nextOther, onward, hearing, granted, putsOut, markingBy, answers, takesGap}
+use Rattle.charts.specs.Actions.{does, firstOther, nextOther, onward, hearing, granted, putsOut, markingBy, answers, takesGap, markingAtIdle}
 use Rattle.charts.specs.Step.{accepted}
 use Rattle.charts.specs.Demand as Demand
 use Rattle.charts.specs.Demand.{Note, told, gave, Run, none, run, Book, newBook, asks, confirms, note, notes, nodeOf, moves, reports, enters, Acknowledged, Honest, AllHonest}
@@ -639,5 +639,5 @@ module _ (s : State) (bk : ℕ → Book) (v : Heed s bk) (p : Packet) (ca : Carr
       (pick (λ p. (f : ℕ → Mode) → AckAt p f) (others (pendings (s .cell)) i (s .n)) _ _ (λ f. tt) (λ f. tt) _) (v .honest)
   heeds (grants-none z e) = stays Busy tt
   heeds (gaps z u) = gapped z tt (carries p s ca re i l (gaps z u) .tells)
-  heeds (settles z u) = remarked-heed (M.Concatenated false) _ _ (gapped z tt (carries p s ca re i l (settles z u) .tells))
+  heeds (settles z u) = remarked-heed markingAtIdle _ _ (gapped z tt (carries p s ca re i l (settles z u) .tells))
   heeds (resets z) = remarked-heed M.Won _ bk (stays (s .phase) (acks-stay (s .cell i) refl))

@@ -149,7 +149,7 @@ module _ (s : State) (g : ℕ → Cell) (h : (k : ℕ) → k < s .n → s .cell 
       ap (λ c. reset (s .n) (s .phase) c (wons (s .cell))) (h 0 (omega (arith, v .two)))
       ∙ reset-agree (s .n) (s .phase) (g 0) _ _ (some-agree (wons (s .cell)) (wons g) (s .n) (marks (λ c. c .won)))
 
--- states that agree, with one cell changed alike and marks cleared
+-- states that agree, with one cell changed alike and marks changed
 moved-agree : (s t : State) (p : Phase) (i : ℕ) (c : Cell) → Agree s t → Agree (moved s p i c) (moved t p i c)
 moved-agree s t p i c e = record { same-n = e .same-n; same-phase = refl; same-mark = e .same-mark; same-cells = λ k l. ap (cond (eqb k i) c) (e .same-cells k l) }
 

@@ -34,7 +34,7 @@ use Rattle.charts.specs.Signals.{everybody, classOf, kindOf, closes, hea
 use Rattle.charts.specs.Reception.{hears, falls}
 use Rattle.charts.specs.Arrivals.{passed}
 use Rattle.charts.specs.State.{State, every, some, others, pendings, holders, moved, remarked, fresh}
-use Rattle.charts.specs.Actions.{does, firstOther, nextOther, onward, granted, putsOut, markingBy}
+use Rattle.charts.specs.Actions.{does, firstOther, nextOther, onward, granted, putsOut, markingBy, markingAtIdle}
 use Rattle.charts.proofs.Tools.{never, clash, implies, implied, and-true, or-false, or-no, or-yes, pick, pick-by, at-upd, at-upd≢, mem, everyIn, mem-sub, by-test}
 use Rattle.charts.proofs.Words as W
 use Rattle.charts.proofs.Words.{wordOf}
@@ -239,9 +239,18 @@ pub record Carries (p : Packet) (r : Report) (s : State) : Type 0 where
   pub carry : Carry packet s
   pub tells : Tells p r
 
--- the mark of the bus says nothing of packets
-remarked-carries : {p : Packet} {r : Report} {s : State} (b : Bool) → Carries p r s → Carries p r (remarked (M.Concatenated b) s)
-remarked-carries b c = record { packet = c .packet; carry = record { all = c .carry .all; signal = c .carry .signal; own = c .carry .own }; tells = c .tells }
+-- marks other than the misled ones say nothing of packets
+abbrev keepsMisled : Marking → Bool
+keepsMisled M.Nothing = true
+keepsMisled M.Misled = false
+keepsMisled M.Won = true
+keepsMisled (M.Concatenated b) = true
+
+remarked-carries : {p : Packet} {r : Report} {s : State} (x : Marking) → keepsMisled x ≡ true → Carries p r s → Carries p r (remarked x s)
+remarked-carries M.Nothing e c = c
+remarked-carries M.Misled e c = never e
+remarked-carries M.Won e c = record { packet = c .packet; carry = record { all = c .carry .all; signal = c .carry .signal; own = c .carry .own }; tells = c .tells }
+remarked-carries (M.Concatenated b) e c = record { packet = c .packet; carry = record { all = c .carry .all; signal = c .carry .signal; own = c .carry .own }; tells = c .tells }
 
 module _ (p : Packet) (s : State) (v : Carry p s) where
   -- cell i changes, and the packet stays
@@ -362,7 +371,7 @@ module _ (p : Packet) (s : State) (v : Carry p s) (re : Reach s) (i : ℕ) (l : 
       go e filler = on tt refl (answers refl (for-me refl e)) (λ z. never z)
       go e (ack-start {a = c} {h = b}) = opens (Acking 0 c b) (λ w. answers refl (for-me refl e)) (λ z. never z) (first-acked a c b e o)
       go e ack-body = on tt refl (answers refl (for-me refl e)) (λ z. never z)
-      go e (ack-hold k) = remarked-carries true (on tt refl (nothing refl) (λ z. never z))
+      go e (ack-hold {k = k} {a = c} h) = remarked-carries (markingBy (Acking k c true) Prefix) refl (on tt refl (nothing refl) (λ z. never z))
       go e (ack-end k) = on tt refl (nothing refl) (λ z. never z)
       go e holds-on = on tt refl (nothing refl) (λ z. never z)
 
@@ -401,5 +410,5 @@ module _ (p : Packet) (s : State) (v : Carry p s) (re : Reach s) (i : ℕ) (l : 
       untold p (changes p s v _ i _ (pick (SaysAt p) (others (pendings (s .cell)) i (s .n)) _ _ tt tt) (granted-bears (v .all i l)) (λ q. v .own i l (granted-sends (s .cell i .mode) q))) refl
   carries (grants-none z e) = untold p (stays Busy tt) refl
   carries (gaps z u) = hear p s v _ i Gap _ false l tt tt refl (sym (or-no (s .cell i .misled))) refl
-  carries (settles z u) = remarked-carries false (hear p s v _ i Gap _ false l tt tt refl (sym (or-no (s .cell i .misled))) refl)
-  carries (resets z) = let c = stays (s .phase) (v .signal) in untold p (record { all = c .all; signal = c .signal; own = c .own }) refl
+  carries (settles z u) = remarked-carries markingAtIdle refl (hear p s v _ i Gap _ false l tt tt refl (sym (or-no (s .cell i .misled))) refl)
+  carries (resets z) = remarked-carries M.Won refl (untold p (stays (s .phase) (v .signal)) refl)

@@ -232,7 +232,7 @@ module _ (s : State) (v : Valid s) where
   fit {i = i} k l (W.settles q u) = (refl, in-mode i l _ (hears-fits n i (s .cell i .mode) Gap refl (was i l .mode-fits)))
   fit {i = i} k l (W.resets q) = (v .phase-fits, was i l)
 
--- the state after, then: another phase and another cell, and some marks cleared
+-- the state after, then: another phase and another cell, and some marks changed
 moved-valid : (s : State) (p : Phase) (i : ℕ) (c : Cell) → Valid s → phaseFits (s .n) p ≡ true → CellFits (s .n) c → Valid (moved s p i c)
 moved-valid s p i c v f g =
     record { two = v .two; small = v .small; phase-fits = f; cells-fit = λ k l. at-upd (λ k c. cellFits (s .n) c ≡ true) (s .cell) i c k (fits-cell (s .n) c g) (v .cells-fit k l) }

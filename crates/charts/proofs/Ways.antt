@@ -35,7 +35,7 @@ use Rattle.charts.specs.Arrivals as Arrivals
 use Rattle.charts.specs.Arrivals.{passed}
 use Rattle.charts.specs.State.{State, wons, pendings, holders, some, others, lowest, isIdle, isBusy, isGranting, isEmpty}
 use Rattle.charts.specs.Actions as Actions
-use Rattle.charts.specs.Actions.{Outcome, closed, does, quietly, when, fills, mayAnswer, answers, firstOther, putsOut, markingBy, freed, afterFree, hearing, delivers, takesGrant, afterGrant, takesGap, nextOf}
+use Rattle.charts.specs.Actions.{Outcome, closed, does, quietly, when, fills, mayAnswer, answers, firstOther, putsOut, markingBy, freed, afterFree, hearing, delivers, takesGrant, afterGrant, takesGap, markingAtIdle, nextOf}
 use Rattle.charts.specs.Step.{about, comesTo}
 use Rattle.charts.proofs.Tools.{never, and-true, pick-by}
 use Rattle.charts.proofs.Places.{mode-is}
@@ -98,7 +98,7 @@ pub data Effect (s : State) : Move → ℕ → Outcome → Type 0 where
   gaps : {j : ℕ} → s .phase ≡ Gapping j → suc j < s .n →
       Effect s GapNext j (does (hears j (s .cell j .mode) Gap .report) (Gapping (suc j)) (takesGap j (s .cell j)) M.Nothing)
   settles : {j : ℕ} → s .phase ≡ Gapping j → s .n ≤ suc j →
-      Effect s GapNext j (does (hears j (s .cell j .mode) Gap .report) Idle (takesGap j (s .cell j)) (M.Concatenated false))
+      Effect s GapNext j (does (hears j (s .cell j .mode) Gap .report) Idle (takesGap j (s .cell j)) markingAtIdle)
   resets : {i : ℕ} → s .phase ≡ Idle → Effect s Reset i (does R.Silent (s .phase) (s .cell i) M.Won)
 
 pub is-idle : (p : Phase) → isIdle p ≡ true → p ≡ Idle

@@ -162,9 +162,13 @@ grant n ph i c ps =
     (quietly (afterGrant n i ps) (takesGrant c))
     (quietly Busy c))
 
--- 9. gap: "bus Gapping. The next node gets Gap; after node n−1 the bus is Idle." The bus's mark, request 1: "cleared when the bus becomes Idle"
+-- 9. gap: "bus Gapping. The next node gets Gap; after node n−1 the bus is Idle."
 abbrev pub takesGap : ℕ → Cell → Cell
 takesGap j c = setMode (hears j (c .mode) Gap .mode) c
+
+-- the bus's mark, request 1: "cleared when the bus becomes Idle"
+abbrev pub markingAtIdle : Marking
+markingAtIdle = M.Concatenated false
 
 abbrev pub gapsTo : Phase → Marking → ℕ → Cell → Outcome
 gapsTo p x j c = does (hears j (c .mode) Gap .report) p (takesGap j c) x
@@ -174,7 +178,7 @@ gap n Idle c = closed
 gap n Busy c = closed
 gap n (Delivering i s j) c = closed
 gap n Granting c = closed
-gap n (Gapping j) c = cond (ltb (suc j) n) (gapsTo (Gapping (suc j)) M.Nothing j c) (gapsTo Idle (M.Concatenated false) j c)
+gap n (Gapping j) c = cond (ltb (suc j) n) (gapsTo (Gapping (suc j)) M.Nothing j c) (gapsTo Idle markingAtIdle j c)
 
 -- 10. reset: "bus Idle with some won mark; clears these marks"
 unfoldable pub reset : ℕ → Phase → Cell → (ℕ → Bool) → Outcome
