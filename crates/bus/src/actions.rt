@@ -117,7 +117,7 @@ pub(crate) fn arbitrate(phase: Phase, i: u8, c: Cell) -> Plan
     }
 }
 
-// 3. respond. While the bus is marked, hold 1 is not open.
+// 3. respond. The bus's own mark: "While it is set, respond with hold 1 is not open".
 pub(crate) fn respond(phase: Phase, concatenated: bool, c: Cell, ack: u8, hold: bool) -> Plan
     ensures { λ r. ⌜ r ≡ settled phase c (respond phase concatenated c ack hold) ⌝ }
 {
@@ -183,7 +183,7 @@ fn free(n: u8, phase: Phase, i: u8, c: Cell, holder: &[bool; 63]) -> Plan
     plans::quietly(after_free(n, i, holder), freed(c))
 }
 
-// "Start clears the misled marks"; the Prefix of an Acking node marks the bus.
+// "Start clears the misled marks"; the bus's own mark is "set when an Acking node puts out its closing Prefix".
 fn marking_by(mode: Mode, s: Signal) -> Marking
     ensures { λ r. ⌜ r ≡ markingBy mode s ⌝ }
 {
@@ -391,7 +391,7 @@ pub(crate) fn grant(n: u8, phase: Phase, i: u8, c: Cell, pending: &[bool; 63]) -
     plans::quietly(after_grant(n, i, pending), take_grant(c))
 }
 
-// Node j gets Gap; "after node n−1 the bus is Idle", and no longer marked.
+// Node j gets Gap; "after node n−1 the bus is Idle", and its own mark is "cleared when the bus becomes Idle".
 fn gap_at(n: u8, j: u8, c: Cell) -> Plan
     requires { ⌜ j < 63 ⌝ }
     ensures { λ r. ⌜ r ≡ settled (P.Gapping j) c (gap n (P.Gapping j) c) ⌝ }
