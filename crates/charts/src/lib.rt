@@ -25,7 +25,7 @@ pub enum Datum {
     Bad,
 }
 
-// A node's mode with what that mode remembers, in document 01's order.
+// A node's mode with what that mode remembers, in document 01's order, new modes last.
 pub enum Mode {
     Rest,
     AwaitAck,
