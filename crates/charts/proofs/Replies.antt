@@ -78,8 +78,25 @@ remarked-spent M.Misled t e h = record { marked = e; none = h }
 remarked-spent M.Won t e h = record { marked = e; none = h }
 remarked-spent (M.Concatenated b) t e h = record { marked = e; none = h }
 
+-- nobody comes to Holding by hearing
 hears-none : (me : ℕ) (m : Mode) (g : Signal) → isHolding m ≡ false → isHolding (hears me m g .mode) ≡ false
 hears-none me m g e = not-implied _ _ (law (λ y p c. implies (eqb (y .place) P.holding) (eqb p P.holding)) tt me m g) e
+
+-- only Acking with hold 1 comes to Holding by what it puts out
+puts-none : (i : ℕ) (p : Packet) (m : Mode) (g : Signal) (m′ : Mode) (r : Report) → holdIn m ≡ false → isHolding m ≡ false → Puts i p m g m′ r → isHolding m′ ≡ false
+puts-none i p m g m′ r h e start = refl
+puts-none i p m g m′ r h e dhead = refl
+puts-none i p m g m′ r h e dest = refl
+puts-none i p m g m′ r h e header = refl
+puts-none i p m g m′ r h e datum = refl
+puts-none i p m g m′ r h e (end-all k q) = refl
+puts-none i p m g m′ r h e (end-one k q) = refl
+puts-none i p m g m′ r h e filler = refl
+puts-none i p m g m′ r h e ack-start = refl
+puts-none i p m g m′ r h e ack-body = refl
+puts-none i p m g m′ r h e (ack-hold k) = absurd (true≢false h)
+puts-none i p m g m′ r h e (ack-end k) = refl
+puts-none i p m g m′ r h e holds-on = e
 
 module _ (s : State) (v : Reach s) where
   -- a reply is the last
@@ -103,21 +120,6 @@ module _ (s : State) (v : Reach s) where
   spends m i r p c x l (resets q) z = never z
 
   module _ (u : Spent s) where
-    puts-none : (i : ℕ) (p : Packet) (m : Mode) (g : Signal) (m′ : Mode) (r : Report) → holdIn m ≡ false → isHolding m ≡ false → Puts i p m g m′ r → isHolding m′ ≡ false
-    puts-none i p m g m′ r h e start = refl
-    puts-none i p m g m′ r h e dhead = refl
-    puts-none i p m g m′ r h e dest = refl
-    puts-none i p m g m′ r h e header = refl
-    puts-none i p m g m′ r h e datum = refl
-    puts-none i p m g m′ r h e (end-all k q) = refl
-    puts-none i p m g m′ r h e (end-one k q) = refl
-    puts-none i p m g m′ r h e filler = refl
-    puts-none i p m g m′ r h e ack-start = refl
-    puts-none i p m g m′ r h e ack-body = refl
-    puts-none i p m g m′ r h e (ack-hold k) = absurd (true≢false h)
-    puts-none i p m g m′ r h e (ack-end k) = refl
-    puts-none i p m g m′ r h e holds-on = e
-
     own-none : (m : Move) (i : ℕ) (r : Report) (p : Phase) (c : Cell) (x : Marking) → i < s .n → Effect s m i (does r p c x) → isHolding (c .mode) ≡ false
     own-none m i r p c x l (waits e f) = u .none i l
     own-none m i r p c x l (replies e) = refl
