@@ -30,20 +30,21 @@ use Rattle.charts.specs.Modes as P
 use Rattle.charts.specs.Modes.{placeOf, isTold, isOwed}
 use Rattle.charts.specs.Signals as S
 use Rattle.charts.specs.Signals.{everybody, classOf, kindOf, ackOf, isEnd}
+use Rattle.charts.specs.Places.{ackIn}
 use Rattle.charts.specs.Reception.{answer, hears}
 use Rattle.charts.specs.State.{State, setMode, upd, every, some, others, pendings, holders, moved, remarked, fresh}
-use Rattle.charts.specs.Actions.{does, firstOther, nextOther, onward, hearing, granted, putsOut, markingBy, answers, takesGap, markingAtIdle}
+use Rattle.charts.specs.Actions.{does, firstOther, nextOther, onward, hearing, granted, putsOut, markingBy, answers, markingAtIdle}
 use Rattle.charts.specs.Step.{accepted}
 use Rattle.charts.specs.Demand as Demand
 use Rattle.charts.specs.Demand.{Note, told, gave, Run, none, run, Book, newBook, asks, confirms, note, notes, nodeOf, moves, reports, enters, Acknowledged, Honest, AllHonest}
 use Rattle.charts.proofs.Tools.{never, clash, implies, implied, and-true, or-yes, pick, pick-by, at-upd, at-upd≢, upd-same, upd-other, table-at, pairs-at, mem, everyIn, mem-sub, by-test}
-use Rattle.charts.proofs.Words as W
-use Rattle.charts.proofs.Words.{wordOf}
-use Rattle.charts.proofs.Places.{mode-is, law, law-mode, ackIn, active, stepOf, ackingAt}
+use Rattle.charts.specs.Words as W
+use Rattle.charts.specs.Words.{wordOf}
+use Rattle.charts.proofs.Places.{mode-is, law, law-mode, active, stepOf, ackingAt}
 use Rattle.charts.proofs.Payload.{OthersIn, sends, Carry, Tells, told-none, told-good, told-dcrc, told-broad, signal-is, answers-to, past, inRow, in-row, row-in, turn-in, holding-past, carries}
 use Rattle.charts.proofs.Stages.{rowAt, turnAt, quiet, grantSteps, clearSteps, Delivery, BusyAt, talks, clears, Stage}
 use Rattle.charts.proofs.Reach.{Reach, answerers, allBelow, mem-below, low-places, step-place, is-talker, no-turn}
-use Rattle.charts.proofs.Ways.{passed-by, Puts, start, dhead, dest, header, datum, end-all, end-one, filler, ack-start, ack-body, ack-hold, ack-end, holds-on, Arrives, passes, redirects, bad-header, bad-data, bad-ack, Effect, waits, replies, wins, loses, gives, puts, frees, arrives, drops, grants, grants-none, gaps, settles, resets}
+use Rattle.charts.proofs.Ways.{afterGap, passed-by, Puts, start, dhead, dest, header, datum, end-all, end-one, filler, ack-start, ack-body, ack-hold, ack-end, holds-on, Arrives, passes, redirects, bad-header, bad-data, bad-ack, Effect, waits, replies, wins, loses, gives, puts, frees, arrives, drops, grants, grants-none, gaps, settles, resets}
 use Rattle.charts.proofs.Books.{Kept, Runs, ours, By, silent, acks, misses, good, dcrc, broad, by, conf, leaves, remains, holdOf}
 
 -- WHAT A NODE SAYS OF A REQUEST, by its mode: nothing; that it was told; the acknowledgement that its user gave
@@ -599,8 +600,8 @@ module _ (s : State) (bk : ℕ → Book) (v : Heed s bk) (p : Packet) (ca : Carr
       (v .agrees i w l (at-stage z .here) (ap asking e))
 
   -- node i gets its Gap
-  gapped : {ph : Phase} → s .phase ≡ Gapping i → AckAt ph (modesAfter s i (takesGap i (s .cell i))) → Tells p (hears i (s .cell i .mode) Gap .report) →
-      Heed (moved s ph i (takesGap i (s .cell i))) (λ k. reports (eqb k (nodeOf (hears i (s .cell i .mode) Gap .report))) (hears i (s .cell i .mode) Gap .report) (bk k))
+  gapped : {ph : Phase} → s .phase ≡ Gapping i → AckAt ph (modesAfter s i (afterGap i (s .cell i))) → Tells p (hears i (s .cell i .mode) Gap .report) →
+      Heed (moved s ph i (afterGap i (s .cell i))) (λ k. reports (eqb k (nodeOf (hears i (s .cell i .mode) Gap .report))) (hears i (s .cell i .mode) Gap .report) (bk k))
   gapped z a =
       hears-heed s bk v p ca kp _ i l Gap (s .cell i) a
       (λ e. clash _ e (not-true _ (by-place (λ p. mem p quiet) (λ p. not (mem p tails)) tt (s .cell i .mode) (at-stage z .calm i l)))) (λ e f. never f)

@@ -82,13 +82,13 @@ clock-agree n ph i c u v e = ap (when (isBusy ph)) (go (output i (c .mode) (c .s
     go O.Frees = rw e refl
     go (O.Puts s m r) = rw e refl
 
-carry-agree : (n : ℕ) (ph : Phase) (c : Cell) (u v : ℕ → Bool) (w : Way) → ((i : ℕ) (b : Bool) → some (upd u i b) n ≡ some (upd v i b) n) → carry n ph c u w ≡ carry n ph c v w
+carry-agree : (n : ℕ) (ph : Phase) (c : Cell) (u v : ℕ → Bool) (w : Way) → ((i : ℕ) (b : Bool) → some (upd u i b) n ≡ some (upd v i b) n) → carry hears n ph c u w ≡ carry hears n ph c v w
 unfolding carry
 carry-agree n Idle c u v w e = refl
 carry-agree n Busy c u v w e = refl
 carry-agree n (Delivering i s j) c u v w e = go (arrives w (c .misled) s)
   where
-    go : (x : Arrival) → deliverWith n i s j c u x ≡ deliverWith n i s j c v x
+    go : (x : Arrival) → deliverWith hears n i s j c u x ≡ deliverWith hears n i s j c v x
     go A.Closed = refl
     go A.Lost = rw (e j (c .pending)) refl
     go (A.Hears t b) = rw (e j (c .pending || hears j (c .mode) t .pends)) refl
@@ -137,14 +137,14 @@ module _ (s : State) (g : ℕ → Cell) (h : (k : ℕ) → k < s .n → s .cell 
       ap (λ c. clock (s .n) (s .phase) i c (holders (s .cell))) (h i k)
       ∙ clock-agree (s .n) (s .phase) i (g i) _ _ (others-agree (holders (s .cell)) (holders g) i (s .n) (marks (λ c. c .holder)) false)
   same-outcome v (Carry w) k =
-      ap (λ c. carry (s .n) (s .phase) c (pendings (s .cell)) w) (h (nextOf (s .phase)) (next-lt (s .n) (s .phase) (v .two) (v .phase-fits)))
+      ap (λ c. carry hears (s .n) (s .phase) c (pendings (s .cell)) w) (h (nextOf (s .phase)) (next-lt (s .n) (s .phase) (v .two) (v .phase-fits)))
       ∙ carry-agree (s .n) (s .phase) (g (nextOf (s .phase))) _ _ w (λ i. others-agree (pendings (s .cell)) (pendings g) i (s .n) pend)
   same-outcome v Grant k =
       let i = lowest (pendings (s .cell)) (s .n) 0 in
       ap (λ c. grant (s .n) (s .phase) i c (pendings (s .cell))) (h i (lowest-below (pendings (s .cell)) (s .n) 0 (s .n) (omega arith) (omega (arith, v .two))))
       ∙ grant-agree (s .n) (s .phase) i (g i) _ _ (some-agree (pendings (s .cell)) (pendings g) (s .n) pend) (others-agree (pendings (s .cell)) (pendings g) i (s .n) pend false)
       ∙ ap (λ i. grant (s .n) (s .phase) i (g i) (pendings g)) (same-about Grant)
-  same-outcome v GapNext k = ap (gap (s .n) (s .phase)) (h (nextOf (s .phase)) (next-lt (s .n) (s .phase) (v .two) (v .phase-fits)))
+  same-outcome v GapNext k = ap (gap hears (s .n) (s .phase)) (h (nextOf (s .phase)) (next-lt (s .n) (s .phase) (v .two) (v .phase-fits)))
   same-outcome v Reset k =
       ap (λ c. reset (s .n) (s .phase) c (wons (s .cell))) (h 0 (omega (arith, v .two)))
       ∙ reset-agree (s .n) (s .phase) (g 0) _ _ (some-agree (wons (s .cell)) (wons g) (s .n) (marks (λ c. c .won)))

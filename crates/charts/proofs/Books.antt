@@ -30,6 +30,7 @@ use Rattle.charts.specs.Modes as P
 use Rattle.charts.specs.Modes.{placeOf, isHolding, isTold, isOwed}
 use Rattle.charts.specs.Signals as S
 use Rattle.charts.specs.Signals.{everybody, classOf, isLine, closes}
+use Rattle.charts.specs.Places.{holdIn}
 use Rattle.charts.specs.Reception as Reception
 use Rattle.charts.specs.Reception.{hears}
 use Rattle.charts.specs.State.{State, upd, moved, remarked, isEmpty, fresh}
@@ -38,9 +39,9 @@ use Rattle.charts.specs.Step.{Result, step, after, Event, accepted, even
 use Rattle.charts.specs.Demand as Demand
 use Rattle.charts.specs.Demand.{Note, gave, Run, none, run, Book, newBook, isRun, asks, confirms, note, notes, holdsFor, moverOf, nodeOf, moves, reports, enters, bookOf}
 use Rattle.charts.proofs.Tools.{never, clash, implies, implied, and-true, neither, beq-eq, pick, pick-by, mem}
-use Rattle.charts.proofs.Words as W
-use Rattle.charts.proofs.Words.{wordOf}
-use Rattle.charts.proofs.Places.{holdIn, hold-in, mode-is, law}
+use Rattle.charts.specs.Words as W
+use Rattle.charts.specs.Words.{wordOf}
+use Rattle.charts.proofs.Places.{hold-in, mode-is, law}
 use Rattle.charts.proofs.Ways.{Puts, start, dhead, dest, header, datum, end-all, end-one, filler, ack-start, ack-body, ack-hold, ack-end, holds-on, Effect, waits, replies, wins, loses, gives, puts, frees, arrives, drops, grants, grants-none, gaps, settles, resets}
 use Rattle.charts.proofs.Steps.{Stepped, refused, acts, stepped}
 

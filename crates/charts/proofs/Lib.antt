@@ -1,5 +1,4 @@
 pub mod Tools
-pub mod Words
 pub mod Places
 pub mod Ways
 pub mod Steps

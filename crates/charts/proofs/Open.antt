@@ -25,6 +25,8 @@ use Rattle.charts.specs.declared.Decoded.the-variants.{Refused, Accepted
 use Rattle.charts.specs.Numbers as N
 use Rattle.charts.specs.Modes as P
 use Rattle.charts.specs.Modes.{placeOf, isRest, isAnswering, isHolding}
+use Rattle.charts.specs.Reception.{hears}
+use Rattle.charts.specs.Places.{stepIn, ackIn, holdIn}
 use Rattle.charts.specs.Outputs as Outputs
 use Rattle.charts.specs.Outputs.{output}
 use Rattle.charts.specs.Arrivals as Arrivals
@@ -36,7 +38,7 @@ use Rattle.charts.specs.Valid.{valid}
 use Rattle.charts.specs.Step.{carryOut, about, comesTo, play, look, stepWith, step, isAccepted}
 use Rattle.charts.specs.Demand.{forward, isForward}
 use Rattle.charts.proofs.Tools.{never, clash, implies, implied, both, and-no, pick, none-of, lowest-of, lowest-lt, others-none, table-at, mem, mem-one, neither, or-yes}
-use Rattle.charts.proofs.Places.{law-mode, active, stepIn, ackIn, holdIn, stepOf, mode-is}
+use Rattle.charts.proofs.Places.{law-mode, active, stepOf, mode-is}
 use Rattle.charts.proofs.Stages.{turnAt, clearSteps, acting, BusyAt, talks, clears, Stage}
 use Rattle.charts.proofs.Reach.{Reach, answerers, is-talker}
 use Rattle.charts.proofs.Progress.{acting-step, odd-clear}
@@ -190,6 +192,6 @@ module _ (s : State) (v : valid s ≡ true) where
         go : (p : Phase) → s .phase ≡ p → Stage (s .concatenated) p (s .n) (s .cell) → isIdle p ≡ false → Found
         go Idle q a e = absurd (true≢false e)
         go Busy q a e = busy-opens q a
-        go (Delivering w g j) q a e = is-open (bare 5 0 0) (Carry Pass) refl refl (subst (λ p. Opens (Actions.carry (s .n) p (s .cell (Actions.nextOf p)) (pendings (s .cell)) Pass)) (sym q) opens) refl
+        go (Delivering w g j) q a e = is-open (bare 5 0 0) (Carry Pass) refl refl (subst (λ p. Opens (Actions.carry hears (s .n) p (s .cell (Actions.nextOf p)) (pendings (s .cell)) Pass)) (sym q) opens) refl
         go Granting q a e = is-open (bare 8 0 0) Grant refl refl (open-when (isGranting (s .phase)) _ (ap isGranting q) (pick Opens (some (pendings (s .cell)) (s .n)) _ _ opens opens)) refl
-        go (Gapping j) q a e = is-open (bare 9 0 0) GapNext refl refl (subst (λ p. Opens (Actions.gap (s .n) p (s .cell (Actions.nextOf p)))) (sym q) (pick Opens (ltb (suc j) (s .n)) _ _ opens opens)) refl
+        go (Gapping j) q a e = is-open (bare 9 0 0) GapNext refl refl (subst (λ p. Opens (Actions.gap hears (s .n) p (s .cell (Actions.nextOf p)))) (sym q) (pick Opens (ltb (suc j) (s .n)) _ _ opens opens)) refl

@@ -36,8 +36,8 @@ use Rattle.charts.specs.Arrivals.{passed}
 use Rattle.charts.specs.State.{State, every, some, others, pendings, holders, moved, remarked, fresh}
 use Rattle.charts.specs.Actions.{does, firstOther, nextOther, onward, granted, putsOut, markingBy, markingAtIdle}
 use Rattle.charts.proofs.Tools.{never, clash, implies, implied, and-true, or-false, or-no, or-yes, pick, pick-by, at-upd, at-upd≢, mem, everyIn, mem-sub, by-test}
-use Rattle.charts.proofs.Words as W
-use Rattle.charts.proofs.Words.{wordOf}
+use Rattle.charts.specs.Words as W
+use Rattle.charts.specs.Words.{wordOf}
 use Rattle.charts.proofs.Places.{mode-is, law, law-mode, active, stepOf, sendingAt, ackingAt}
 use Rattle.charts.proofs.Stages.{Row, rowAt, turnAt, quiet, grantSteps, clearSteps, Delivery, Talk, BusyAt, talks, clears, Stage}
 use Rattle.charts.proofs.Ways.{Puts, start, dhead, dest, header, datum, end-all, end-one, filler, ack-start, ack-body, ack-hold, ack-end, holds-on, Arrives, passes, redirects, bad-header, bad-data, bad-ack, Effect, waits, replies, wins, loses, gives, puts, frees, arrives, drops, grants, grants-none, gaps, settles, resets}

@@ -2,12 +2,11 @@
 -- so that a rule of the chart is one test, computed over 24 × 14 pairs (`law`).
 use mathlib.Core.Path.{_≡_, refl, sym, ap, subst, _∙_}
 use mathlib.Core.Bool.{Bool, true, false, cond, _&&_, _||_, not, Bool·beq}
-use mathlib.Core.List.{List, [], _∷_}
+use mathlib.Core.List.{[], _∷_}
 use Prim.Native.Nat.{ℕ, _<_, _+_, _*_}
 use lib.Dec.{T, eqb, lit<}
 use lib.ListN.{getD}
 use borrow.Author.Tests.{eqb-true, not-true}
-use Rattle.charts.specs.declared.Head.{Head}
 use Rattle.charts.specs.declared.Seen.the-variants as Sn
 use Rattle.charts.specs.declared.Datum.the-variants as D
 use Rattle.charts.specs.declared.Mode.{Mode}
@@ -15,152 +14,18 @@ use Rattle.charts.specs.declared.Mode.the-variants.{Rest, AwaitAck, AckB
 use Rattle.charts.specs.declared.Signal.{Signal}
 use Rattle.charts.specs.declared.Signal.the-variants.{Start, End, Prefix, Gap, Dhead, Dest, Header, Data, Ack}
 use Rattle.charts.specs.declared.Heard.{Heard}
+use Rattle.charts.specs.declared.Entry.{Entry}
 use Rattle.charts.specs.Modes as P
 use Rattle.charts.specs.Modes.{placeOf}
 use Rattle.charts.specs.Signals as S
 use Rattle.charts.specs.Signals.{classOf, isLine, closes}
 use Rattle.charts.specs.State.{every}
 use Rattle.charts.specs.Reception.{answer, hears}
-use Rattle.charts.proofs.Words.{wordOf}
+use Rattle.charts.specs.Places.{stepIn, ackIn, holdIn, headIn, datumIn, modes}
+use Rattle.charts.specs.Table.{entryOf, entry}
 use Rattle.charts.proofs.Tools.{implies, not-implied, pick, by-test, beq-eq, everyPair, table-at, pairs-at, mem}
 
 -- the clauses from here to `place-lt` are printed by tools/places.py
--- the step, acknowledgement, hold, header and datum that a mode remembers
-abbrev pub stepIn : Mode → ℕ
-stepIn Rest = 0
-stepIn AwaitAck = 0
-stepIn AckBody = 0
-stepIn (AckEnd (Sn.Ack a)) = 0
-stepIn (AckEnd Sn.Nothing) = 0
-stepIn Opened = 0
-stepIn Addressed = 0
-stepIn HeadOwn = 0
-stepIn HeadAll = 0
-stepIn (BodyOwn h) = 0
-stepIn (BodyAll h) = 0
-stepIn (TailOwn h (D.Good d)) = 0
-stepIn (TailOwn h D.Bad) = 0
-stepIn (TailAll h (D.Good d)) = 0
-stepIn (TailAll h D.Bad) = 0
-stepIn Wait = 0
-stepIn Owed = 0
-stepIn (Sending k) = k
-stepIn Told = 0
-stepIn Answering = 0
-stepIn (Acking k a b) = k
-stepIn Holding = 0
-stepIn Spurious = 0
-stepIn Listening = 0
-
-abbrev pub ackIn : Mode → ℕ
-ackIn Rest = 0
-ackIn AwaitAck = 0
-ackIn AckBody = 0
-ackIn (AckEnd (Sn.Ack a)) = a
-ackIn (AckEnd Sn.Nothing) = 0
-ackIn Opened = 0
-ackIn Addressed = 0
-ackIn HeadOwn = 0
-ackIn HeadAll = 0
-ackIn (BodyOwn h) = 0
-ackIn (BodyAll h) = 0
-ackIn (TailOwn h (D.Good d)) = 0
-ackIn (TailOwn h D.Bad) = 0
-ackIn (TailAll h (D.Good d)) = 0
-ackIn (TailAll h D.Bad) = 0
-ackIn Wait = 0
-ackIn Owed = 0
-ackIn (Sending k) = 0
-ackIn Told = 0
-ackIn Answering = 0
-ackIn (Acking k a b) = a
-ackIn Holding = 0
-ackIn Spurious = 0
-ackIn Listening = 0
-
-abbrev pub holdIn : Mode → Bool
-holdIn Rest = false
-holdIn AwaitAck = false
-holdIn AckBody = false
-holdIn (AckEnd (Sn.Ack a)) = false
-holdIn (AckEnd Sn.Nothing) = false
-holdIn Opened = false
-holdIn Addressed = false
-holdIn HeadOwn = false
-holdIn HeadAll = false
-holdIn (BodyOwn h) = false
-holdIn (BodyAll h) = false
-holdIn (TailOwn h (D.Good d)) = false
-holdIn (TailOwn h D.Bad) = false
-holdIn (TailAll h (D.Good d)) = false
-holdIn (TailAll h D.Bad) = false
-holdIn Wait = false
-holdIn Owed = false
-holdIn (Sending k) = false
-holdIn Told = false
-holdIn Answering = false
-holdIn (Acking k a b) = b
-holdIn Holding = false
-holdIn Spurious = false
-holdIn Listening = false
-
-abbrev pub headIn : Mode → Head
-headIn Rest = record { header = 0 }
-headIn AwaitAck = record { header = 0 }
-headIn AckBody = record { header = 0 }
-headIn (AckEnd (Sn.Ack a)) = record { header = 0 }
-headIn (AckEnd Sn.Nothing) = record { header = 0 }
-headIn Opened = record { header = 0 }
-headIn Addressed = record { header = 0 }
-headIn HeadOwn = record { header = 0 }
-headIn HeadAll = record { header = 0 }
-headIn (BodyOwn h) = h
-headIn (BodyAll h) = h
-headIn (TailOwn h (D.Good d)) = h
-headIn (TailOwn h D.Bad) = h
-headIn (TailAll h (D.Good d)) = h
-headIn (TailAll h D.Bad) = h
-headIn Wait = record { header = 0 }
-headIn Owed = record { header = 0 }
-headIn (Sending k) = record { header = 0 }
-headIn Told = record { header = 0 }
-headIn Answering = record { header = 0 }
-headIn (Acking k a b) = record { header = 0 }
-headIn Holding = record { header = 0 }
-headIn Spurious = record { header = 0 }
-headIn Listening = record { header = 0 }
-
-abbrev pub datumIn : Mode → ℕ
-datumIn Rest = 0
-datumIn AwaitAck = 0
-datumIn AckBody = 0
-datumIn (AckEnd (Sn.Ack a)) = 0
-datumIn (AckEnd Sn.Nothing) = 0
-datumIn Opened = 0
-datumIn Addressed = 0
-datumIn HeadOwn = 0
-datumIn HeadAll = 0
-datumIn (BodyOwn h) = 0
-datumIn (BodyAll h) = 0
-datumIn (TailOwn h (D.Good d)) = d
-datumIn (TailOwn h D.Bad) = 0
-datumIn (TailAll h (D.Good d)) = d
-datumIn (TailAll h D.Bad) = 0
-datumIn Wait = 0
-datumIn Owed = 0
-datumIn (Sending k) = 0
-datumIn Told = 0
-datumIn Answering = 0
-datumIn (Acking k a b) = 0
-datumIn Holding = 0
-datumIn Spurious = 0
-datumIn Listening = 0
-
--- the modes by their places
-abbrev pub modes : ℕ → ℕ → Bool → Head → ℕ → List Mode
-modes k a b h d =
-    Rest ∷ AwaitAck ∷ AckBody ∷ (AckEnd (Sn.Ack a)) ∷ (AckEnd Sn.Nothing) ∷ Opened ∷ Addressed ∷ HeadOwn ∷ HeadAll ∷ (BodyOwn h) ∷ (BodyAll h) ∷ (TailOwn h (D.Good d)) ∷ (TailOwn h D.Bad) ∷ (TailAll h (D.Good d)) ∷ (TailAll h D.Bad) ∷ Wait ∷ Owed ∷ (Sending k) ∷ Told ∷ Answering ∷ (Acking k a b) ∷ Holding ∷ Spurious ∷ Listening ∷ []
-
 pub mode-at : (m : Mode) → m ≡ getD (modes (stepIn m) (ackIn m) (holdIn m) (headIn m) (datumIn m)) (placeOf m) Spurious
 mode-at Rest = refl
 mode-at AwaitAck = refl
@@ -248,24 +113,11 @@ hold-in m = ap holdIn (mode-at m) ∙ go (holdIn m)
 pub no-hold : (m : Mode) → eqb (placeOf m) P.acking ≡ false → holdIn m ≡ false
 no-hold m e = hold-in m ∙ ap (λ b. b && holdIn m) e
 
--- what matters of what a node heard: the place of its mode, whether it pends, and the word it reports
-pub record Next : Type 0 where
-  pub place : ℕ
-  pub pends : Bool
-  pub word : ℕ
-
-abbrev pub nextOf : Heard → Next
-nextOf x = record { place = placeOf (x .mode); pends = x .pends; word = wordOf (x .report) }
-
--- the chart by places and classes, computed from the chart at one mode of each place
-abbrev pub next : ℕ → ℕ → Next
-next p c = nextOf (answer 0 (getD (modes 0 0 false (record { header = 0 }) 0) p Spurious) c Start)
-
-arms : (b : Bool) (x y u v : Heard) → nextOf x ≡ nextOf u → nextOf y ≡ nextOf v → nextOf (cond b x y) ≡ nextOf (cond b u v)
+arms : (b : Bool) (x y u v : Heard) → entryOf x ≡ entryOf u → entryOf y ≡ entryOf v → entryOf (cond b x y) ≡ entryOf (cond b u v)
 arms true x y u v p q = p
 arms false x y u v p q = q
 
-key : (me : ℕ) (m : Mode) (c : ℕ) (s : Signal) → nextOf (answer me m c s) ≡ next (placeOf m) c
+pub key : (me : ℕ) (m : Mode) (c : ℕ) (s : Signal) → entryOf (answer me m c s) ≡ entry (placeOf m) c
 key me Rest c s = refl
 key me AwaitAck c s = arms (eqb c S.prefix) _ _ _ _ refl (arms (eqb c S.start) _ _ _ _ refl (arms (eqb c S.gap) _ _ _ _ refl refl))
 key me AckBody c s = arms (eqb c S.gap) _ _ _ _ refl (arms (isLine c) _ _ _ _ refl (arms (eqb c S.ackGood) _ _ _ _ refl refl))
@@ -303,11 +155,11 @@ class-lt me (Data d good) = pick (λ c. c < 14) good _ _ (lit< tt) (lit< tt)
 class-lt me (Ack a good) = pick (λ c. c < 14) good _ _ (lit< tt) (lit< tt)
 
 -- a test of what a node comes to, of the place of its mode and of the signal's class, that passes at all pairs, holds of every node and signal
-pub law : (f : Next → ℕ → ℕ → Bool) → T (everyPair (λ p c. f (next p c) p c) 24 14) → (me : ℕ) (m : Mode) (s : Signal) → f (nextOf (hears me m s)) (placeOf m) (classOf me s) ≡ true
+pub law : (f : Entry → ℕ → ℕ → Bool) → T (everyPair (λ p c. f (entry p c) p c) 24 14) → (me : ℕ) (m : Mode) (s : Signal) → f (entryOf (hears me m s)) (placeOf m) (classOf me s) ≡ true
 unfolding hears
 law f t me m s =
     subst (λ y. f y (placeOf m) (classOf me s) ≡ true) (sym (key me m (classOf me s) s))
-    (pairs-at (λ p c. f (next p c) p c) 24 14 t (placeOf m) (classOf me s) (place-lt m) (class-lt me s))
+    (pairs-at (λ p c. f (entry p c) p c) 24 14 t (placeOf m) (classOf me s) (place-lt m) (class-lt me s))
 
 -- a node in such a mode is pending; is a holder; has a packet of its own half read
 abbrev pub owing : ℕ → Bool

@@ -25,13 +25,14 @@ use Rattle.charts.specs.Modes as P
 use Rattle.charts.specs.Modes.{placeOf, isAnswering, isHolding, isTold, isOwed}
 use Rattle.charts.specs.Signals as S
 use Rattle.charts.specs.Signals.{kindOf, isEnd}
+use Rattle.charts.specs.Places.{stepIn, holdIn}
 use Rattle.charts.specs.Reception.{hears}
 use Rattle.charts.specs.State.{State, pendings, holders, upd, some, others, lowest, every, moved, concatenatedAfter, remarked}
-use Rattle.charts.specs.Actions.{does, firstOther, nextOther, putsOut, freed, afterFree, onward, granted, afterGrant, takesGap, mayAnswer, markingBy}
+use Rattle.charts.specs.Actions.{does, firstOther, nextOther, putsOut, freed, afterFree, onward, granted, afterGrant, mayAnswer, markingBy}
 use Rattle.charts.specs.Demand.{forward}
 use Rattle.charts.proofs.Tools.{never, clash, implies, implied, not-implied, and-true, neither, or-true, pick-by, at-upd, at-upd≢, upd-same, upd-other, upd-map, none-of, some-at, some-agree, others-off, lowest-of, lowest-lt, table-at, mem, everyIn, mem-sub, not-mem-sub, mem-two, pick, by-test}
-use Rattle.charts.proofs.Places.{law, law-mode, owing, active, owes, acts, gap-owes, stepIn, stepOf, holdIn, no-hold, hears-no-hold, place-lt, sendingAt, ackingAt}
-use Rattle.charts.proofs.Ways.{passed-by, Puts, start, dhead, dest, header, datum, end-all, end-one, filler, ack-start, ack-body, ack-hold, ack-end, holds-on, Arrives, passes, redirects, bad-header, bad-data, bad-ack, Effect, waits, replies, wins, loses, gives, puts, frees, arrives, drops, grants, grants-none, gaps, settles, resets}
+use Rattle.charts.proofs.Places.{law, law-mode, owing, active, owes, acts, gap-owes, stepOf, no-hold, hears-no-hold, place-lt, sendingAt, ackingAt}
+use Rattle.charts.proofs.Ways.{afterGap, passed-by, Puts, start, dhead, dest, header, datum, end-all, end-one, filler, ack-start, ack-body, ack-hold, ack-end, holds-on, Arrives, passes, redirects, bad-header, bad-data, bad-ack, Effect, waits, replies, wins, loses, gives, puts, frees, arrives, drops, grants, grants-none, gaps, settles, resets}
 use Rattle.charts.proofs.Steps.{remarked-n}
 use Rattle.charts.proofs.Stages.{rowAt, roundOf, fillerOf, Turn, turnAt, packetRead, quiet, waiting, ended, answering, requesting, reading, grantSteps, clearSteps, acting, Sole, Delivery, Talk, Clear, BusyAt, talks, clears, GrantingAt, GappingAt, IdleAt, Stage, weigh, weights, total, left, bonus, rowRank, turnRank, clearRank, busyRank, rank, Lands, heard-lands, lost-lands}
 use Rattle.charts.proofs.Reach.{Marks, Reach, low-places, low-place, step-place, passive-steps, is-talker, turn-fact, no-turn, sole-quiet}
@@ -1006,7 +1007,7 @@ module _ (s : State) (v : Reach s) where
   -- node j gets its Gap, and others are to come; or it was the last, and the bus is Idle and unmarked
   module _ (j : ℕ) (a : GappingAt (s .n) (s .cell) j) where
     abbrev x : Cell
-    x = takesGap j (s .cell j)
+    x = afterGap j (s .cell j)
 
     abbrev gapped : ℕ → Cell
     gapped = upd (s .cell) j x

@@ -13,9 +13,10 @@ use Rattle.charts.specs.declared.Signal.{Signal}
 use Rattle.charts.specs.declared.Cell.{Cell}
 use Rattle.charts.specs.Modes as P
 use Rattle.charts.specs.Modes.{placeOf}
+use Rattle.charts.specs.Places.{stepIn, holdIn}
 use Rattle.charts.specs.State.{State, holders, others, every, fresh}
 use Rattle.charts.proofs.Tools.{never, clash, implies, implied, and-true, pick-by, table-at, others-off, mem, everyIn, mem-sub}
-use Rattle.charts.proofs.Places.{law-mode, owing, active, stepIn, stepAt, stepOf, holdIn}
+use Rattle.charts.proofs.Places.{law-mode, owing, active, stepAt, stepOf}
 use Rattle.charts.proofs.Stages.{Row, rowAt, Turn, turnAt, quiet, clearSteps, Delivery, Talk, Stage}
 
 -- a node is pending where its mode owes, and a holder where its mode acts

@@ -22,6 +22,7 @@ use Rattle.charts.specs.declared.Action.{Action}
 use Rattle.charts.specs.Modes as P
 use Rattle.charts.specs.Modes.{placeOf, isTold, isOwed, isHolding, isAcking}
 use Rattle.charts.specs.Signals.{isStart, isPrefix}
+use Rattle.charts.specs.Places.{stepIn, holdIn}
 use Rattle.charts.specs.Reception.{hears}
 use Rattle.charts.specs.State.{State, isIdle, moved, concatenatedAfter, remarked}
 use Rattle.charts.specs.Actions.{does}
@@ -30,7 +31,7 @@ use Rattle.charts.specs.Step.{Result, Event, step, eventOf, isAccepted}
 use Rattle.charts.specs.Demand.{one, meetsIdle}
 use Rattle.charts.specs.Replies.{isReply, repliesIn}
 use Rattle.charts.proofs.Tools.{never, clash, implies, not-implied, or-false, pick, by-test, at-upd, at-upd≢, mem}
-use Rattle.charts.proofs.Places.{law, active, stepIn, stepAt, stepOf, holdIn}
+use Rattle.charts.proofs.Places.{law, active, stepAt, stepOf}
 use Rattle.charts.proofs.Ways.{Puts, start, dhead, dest, header, datum, end-all, end-one, filler, ack-start, ack-body, ack-hold, ack-end, holds-on, Effect, waits, replies, wins, loses, gives, puts, frees, arrives, drops, grants, grants-none, gaps, settles, resets}
 use Rattle.charts.proofs.Steps.{Known, Stepped, refused, acts, stepped}
 use Rattle.charts.proofs.Stages.{roundOf, grantSteps, clearSteps, quiet, talks, clears, Stage}

@@ -13,14 +13,16 @@ use Rattle.charts.specs.declared.Signal.the-variants.{Start, End, Prefix
 use Rattle.charts.specs.declared.Phase.{Phase}
 use Rattle.charts.specs.declared.Phase.the-variants.{Idle, Busy, Delivering, Granting, Gapping}
 use Rattle.charts.specs.declared.Cell.{Cell}
+use Rattle.charts.specs.declared.Entry.{Entry}
 use Rattle.charts.specs.Modes as P
 use Rattle.charts.specs.Modes.{placeOf}
 use Rattle.charts.specs.Signals as S
 use Rattle.charts.specs.Signals.{classOf, kindOf}
 use Rattle.charts.specs.Reception.{hears}
+use Rattle.charts.specs.Table.{entry}
 use Rattle.charts.specs.State.{pendings, some, every}
 use Rattle.charts.proofs.Tools.{implies, implied, not-implied, and-true, both, pick, table-at, everyPair, mem, everyIn, mem-sub}
-use Rattle.charts.proofs.Places.{Next, next, law, active, sendingAt, ackingAt, stepOf}
+use Rattle.charts.proofs.Places.{law, active, sendingAt, ackingAt, stepOf}
 
 -- A signal under way: its kind, its round, the steps of its sender, the places of the other nodes before and after they heard it.
 -- At most one of the others stands in a place of `sole`: the requester, and in the packet of round 1 the node that reads it, who was the requester of round 0.
@@ -300,11 +302,11 @@ comes me (Data d good) = pick (λ c. mem c (S.dataGood ∷ S.dataBad ∷ []) ≡
 comes me (Ack a good) = pick (λ c. mem c (S.ackGood ∷ S.ackBad ∷ []) ≡ true) good _ _ refl refl
 
 -- one computed test over 22 rows, 24 places and 14 classes: each node that was in a place of `before` comes to one of `after`, and to one of `sole` only if it was in one
-leads : ℕ → Next → ℕ → ℕ → Bool
+leads : ℕ → Entry → ℕ → ℕ → Bool
 leads d y p c =
     implies (mem p (rowAt d .before) && mem c (getD arrivals (rowAt d .kind) [])) (mem (y .place) (rowAt d .after) && implies (mem (y .place) (rowAt d .sole)) (mem p (rowAt d .sole)))
 
-all-lead : T (every (λ d. everyPair (λ p c. leads d (next p c) p c) 24 14) 22)
+all-lead : T (every (λ d. everyPair (λ p c. leads d (entry p c) p c) 24 14) 22)
 unfolding leads
 all-lead = tt
 
@@ -319,7 +321,7 @@ pub record Lands (d p : ℕ) (m : Mode) : Type 0 where
 pub heard-lands : (d : ℕ) → d < 22 → (me : ℕ) (m : Mode) (s : Signal) → kindOf s ≡ rowAt d .kind → mem (placeOf m) (rowAt d .before) ≡ true → Lands d (placeOf (hears me m s .mode)) m
 unfolding leads
 heard-lands d h me m s e t =
-    let z = and-true _ _ (implied _ _ (law (leads d) (holds (table-at (λ d. everyPair (λ p c. leads d (next p c) p c) 24 14) 22 all-lead d h)) me m s)
+    let z = and-true _ _ (implied _ _ (law (leads d) (holds (table-at (λ d. everyPair (λ p c. leads d (entry p c) p c) 24 14) 22 all-lead d h)) me m s)
     (both _ _ t (subst (λ k. mem (classOf me s) (getD arrivals k []) ≡ true) e (comes me s)))) in
     record { after = z .0; sole = λ q. not-implied _ _ (z .1) q }
 

@@ -32,6 +32,7 @@ use Rattle.charts.specs.Modes as P
 use Rattle.charts.specs.Modes.{placeOf, isTold, isOwed}
 use Rattle.charts.specs.Signals as S
 use Rattle.charts.specs.Signals.{classOf, isLine, ackOf, isEnd}
+use Rattle.charts.specs.Places.{stepIn, ackIn, holdIn, headIn, datumIn, modes}
 use Rattle.charts.specs.Reception.{hears}
 use Rattle.charts.specs.Numbers as N
 use Rattle.charts.specs.State.{State, moved, remarked, fresh, some, others, pendings, holders}
@@ -40,7 +41,7 @@ use Rattle.charts.specs.Records.{isKind, clean, namesNode, namesAddress,
 use Rattle.charts.specs.Valid.{isSize, isAck, modeFits, bufferFits, cellFits, signalFits, phaseFits, valid}
 use Rattle.charts.specs.Step.{Result, Event, carryOut, comesTo, about, play, look, stepWith, step, begin, after, results}
 use Rattle.charts.proofs.Tools.{implies, implied, and-true, both, pick, pick-by, at-upd, every-all, table-at, mem, by-test}
-use Rattle.charts.proofs.Places.{stepIn, ackIn, holdIn, headIn, datumIn, modes, mode-is, mode-at, place-lt, law}
+use Rattle.charts.proofs.Places.{mode-is, mode-at, place-lt, law}
 use Rattle.charts.proofs.Ways.{Puts, Arrives, Effect}
 use Rattle.charts.proofs.Ways as W
 use Rattle.charts.proofs.Steps.{Known, Valid, Stepped, refused, acts, stepped}

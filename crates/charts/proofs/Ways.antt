@@ -1,6 +1,6 @@
 -- The one walk through the actions: the fifteen ways in which an accepted action acts. Every invariant is then proved by one clause for each way.
-use mathlib.Core.Path.{_≡_, refl, sym, ap, subst, _∙_}
-use mathlib.Core.Bool.{Bool, true, false, _&&_, not}
+use mathlib.Core.Path.{_≡_, refl, sym, ap, ap₂, subst, _∙_}
+use mathlib.Core.Bool.{Bool, true, false, _&&_, _||_, not}
 use Prim.Native.Nat.{ℕ, suc, _<_, _≤_}
 use native.Mathlib.Omega.{arith}
 use lib.Dec.{eqb, ltb, leb}
@@ -22,23 +22,26 @@ use Rattle.charts.specs.declared.Output.the-variants as O
 use Rattle.charts.specs.declared.Arrival.{Arrival}
 use Rattle.charts.specs.declared.Way.{Way}
 use Rattle.charts.specs.declared.Way.the-variants.{Pass, Lose, Change}
+use Rattle.charts.specs.declared.Cell.{Cell}
+use Rattle.charts.specs.declared.Marking.{Marking}
 use Rattle.charts.specs.declared.Marking.the-variants as M
 use Rattle.charts.specs.declared.Move.{Move}
 use Rattle.charts.specs.declared.Move.the-variants.{Request, Arbitrate, Respond, Clock, Carry, Grant, GapNext, Reset}
 use Rattle.charts.specs.Modes as P
 use Rattle.charts.specs.Modes.{placeOf, isRest, isHolding, isAnswering}
+use Rattle.charts.specs.Signals as S
 use Rattle.charts.specs.Signals.{everybody, kindOf}
 use Rattle.charts.specs.Reception.{hears}
 use Rattle.charts.specs.Outputs as Outputs
 use Rattle.charts.specs.Outputs.{output}
 use Rattle.charts.specs.Arrivals as Arrivals
 use Rattle.charts.specs.Arrivals.{passed}
-use Rattle.charts.specs.State.{State, wons, pendings, holders, some, others, lowest, isIdle, isBusy, isGranting, isEmpty}
+use Rattle.charts.specs.State.{State, setMode, setPending, setMisled, wons, pendings, holders, some, others, lowest, isIdle, isBusy, isGranting, isEmpty}
 use Rattle.charts.specs.Actions as Actions
 use Rattle.charts.specs.Actions.{Outcome, closed, does, quietly, when, fills, mayAnswer, answers, firstOther, putsOut, markingBy, freed, afterFree, hearing, delivers, takesGrant, afterGrant, takesGap, markingAtIdle, nextOf}
 use Rattle.charts.specs.Step.{about, comesTo}
-use Rattle.charts.proofs.Tools.{never, and-true, pick-by}
-use Rattle.charts.proofs.Places.{mode-is}
+use Rattle.charts.proofs.Tools.{never, implies, and-true, or-no, pick-by}
+use Rattle.charts.proofs.Places.{mode-is, law}
 
 -- what a holder puts out: its mode and packet, the signal, its next mode and its report
 pub data Puts (i : ℕ) (p : Packet) : Mode → Signal → Mode → Report → Type 0 where
@@ -77,6 +80,16 @@ pub data Arrives (misled : Bool) : Way → Signal → Signal → Bool → Type 0
   bad-ack : {b a : ℕ} {c : Bool} → Arrives misled (Change b) (Ack a c) (Ack a false) false
 
 -- an action m about node i comes to o, in one of fifteen ways (or it is not open)
+-- a Gap enters nobody as pending and misleads nobody: it changes the node's mode alone
+abbrev pub afterGap : ℕ → Cell → Cell
+afterGap j c = setMode (hears j (c .mode) Gap .mode) c
+
+gap-takes : (j : ℕ) (c : Cell) → takesGap hears j c ≡ afterGap j c
+gap-takes j c =
+    ap₂ (λ p q. setMode (hears j (c .mode) Gap .mode) (setPending p (setMisled q c)))
+    (ap (λ b. c .pending || b) (not-true _ (law (λ y p k. implies (eqb k S.gap) (not (y .pends))) tt j (c .mode) Gap)) ∙ or-no (c .pending))
+    (or-no (c .misled))
+
 pub data Effect (s : State) : Move → ℕ → Outcome → Type 0 where
   refuses : {m : Move} {i : ℕ} → Effect s m i closed
   waits : {i : ℕ} {p : Packet} → placeOf (s .cell i .mode) ≡ P.rest → s .cell i .buffer ≡ Empty → Effect s (Request i p) i (quietly (s .phase) (fills p (s .cell i)))
@@ -96,9 +109,9 @@ pub data Effect (s : State) : Move → ℕ → Outcome → Type 0 where
       Effect s Grant i (quietly (afterGrant (s .n) i (pendings (s .cell))) (takesGrant (s .cell i)))
   grants-none : {i : ℕ} → s .phase ≡ Granting → some (pendings (s .cell)) (s .n) ≡ false → Effect s Grant i (quietly Busy (s .cell i))
   gaps : {j : ℕ} → s .phase ≡ Gapping j → suc j < s .n →
-      Effect s GapNext j (does (hears j (s .cell j .mode) Gap .report) (Gapping (suc j)) (takesGap j (s .cell j)) M.Nothing)
+      Effect s GapNext j (does (hears j (s .cell j .mode) Gap .report) (Gapping (suc j)) (afterGap j (s .cell j)) M.Nothing)
   settles : {j : ℕ} → s .phase ≡ Gapping j → s .n ≤ suc j →
-      Effect s GapNext j (does (hears j (s .cell j .mode) Gap .report) Idle (takesGap j (s .cell j)) markingAtIdle)
+      Effect s GapNext j (does (hears j (s .cell j .mode) Gap .report) Idle (afterGap j (s .cell j)) markingAtIdle)
   resets : {i : ℕ} → s .phase ≡ Idle → Effect s Reset i (does R.Silent (s .phase) (s .cell i) M.Won)
 
 pub is-idle : (p : Phase) → isIdle p ≡ true → p ≡ Idle
@@ -203,7 +216,7 @@ module _ (s : State) where
 
   -- a signal on its way to node j
   abbrev Delivers : ℕ → Signal → ℕ → Way → Arrival → Type 0
-  Delivers w g j v x = Effect s (Carry v) j (Actions.deliverWith (s .n) w g j (s .cell j) (pendings (s .cell)) x)
+  Delivers w g j v x = Effect s (Carry v) j (Actions.deliverWith hears (s .n) w g j (s .cell j) (pendings (s .cell)) x)
 
   lost : (w : ℕ) (g : Signal) (j : ℕ) → s .phase ≡ Delivering w g j → Delivers w g j Lose (Arrivals.lost g)
   lost w Start j q = refuses
@@ -233,7 +246,7 @@ module _ (s : State) where
   delivered Lose w g j q = lost w g j q
   delivered (Change b) w g j q = changed b w g j q
 
-  carry : (v : Way) (p : Phase) → s .phase ≡ p → Effect s (Carry v) (nextOf p) (Actions.carry (s .n) p (s .cell (nextOf p)) (pendings (s .cell)) v)
+  carry : (v : Way) (p : Phase) → s .phase ≡ p → Effect s (Carry v) (nextOf p) (Actions.carry hears (s .n) p (s .cell (nextOf p)) (pendings (s .cell)) v)
   unfolding Actions.carry
   carry v Idle q = refuses
   carry v Busy q = refuses
@@ -246,13 +259,17 @@ module _ (s : State) where
   grant i l = when-effect _ _ (isGranting (s .phase)) _ λ g. let q = is-granting (s .phase) g in
       pick-by (Effect s Grant i) (some (pendings (s .cell)) (s .n)) _ _ (λ e. grants q e l) (λ e. grants-none q e)
 
-  gap : (p : Phase) → s .phase ≡ p → Effect s GapNext (nextOf p) (Actions.gap (s .n) p (s .cell (nextOf p)))
+  gap : (p : Phase) → s .phase ≡ p → Effect s GapNext (nextOf p) (Actions.gap hears (s .n) p (s .cell (nextOf p)))
   unfolding Actions.gap
   gap Idle q = refuses
   gap Busy q = refuses
   gap (Delivering w g j) q = refuses
   gap Granting q = refuses
-  gap (Gapping j) q = pick-by (Effect s GapNext j) (ltb (suc j) (s .n)) _ _ (λ e. gaps q (ltb-true (suc j) (s .n) e)) (λ e. settles q (ltb-false (suc j) (s .n) e))
+  gap (Gapping j) q =
+      let got : (p : Phase) (x : Marking) → Effect s GapNext j (does (hears j (s .cell j .mode) Gap .report) p (afterGap j (s .cell j)) x) → Effect s GapNext j (Actions.gapsTo hears p x j (s .cell j))
+            = λ p x. subst (λ c. Effect s GapNext j (does (hears j (s .cell j .mode) Gap .report) p c x)) (sym (gap-takes j (s .cell j))) in
+      pick-by (Effect s GapNext j) (ltb (suc j) (s .n)) _ _
+      (λ e. got (Gapping (suc j)) M.Nothing (gaps q (ltb-true (suc j) (s .n) e))) (λ e. got Idle markingAtIdle (settles q (ltb-false (suc j) (s .n) e)))
 
   reset : Effect s Reset 0 (Actions.reset (s .n) (s .phase) (s .cell 0) (wons (s .cell)))
   unfolding Actions.reset

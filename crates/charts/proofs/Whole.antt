@@ -8,13 +8,14 @@ use Rattle.charts.specs.declared.Packet.{Packet}
 use Rattle.charts.specs.declared.Action.{Action}
 use Rattle.charts.specs.Modes as P
 use Rattle.charts.specs.Modes.{placeOf}
+use Rattle.charts.specs.Places.{holdIn}
 use Rattle.charts.specs.State.{State, isIdle, nothing, fresh}
 use Rattle.charts.specs.Records.{moveOf}
 use Rattle.charts.specs.Step.{Result, step, after, Event, eventOf, events}
 use Rattle.charts.specs.Demand.{Book, newBook, enters, bookOf, final, history, book, bound, Demand3}
 use Rattle.charts.specs.Stretch.{EveryAck}
 use Rattle.charts.specs.Replies.{OneReply}
-use Rattle.charts.proofs.Places.{holdIn, mode-is}
+use Rattle.charts.proofs.Places.{mode-is}
 use Rattle.charts.proofs.Ways.{is-idle}
 use Rattle.charts.proofs.Steps.{Stepped, refused, acts, stepped, run-n}
 use Rattle.charts.proofs.Stages.{IdleAt, Stage}

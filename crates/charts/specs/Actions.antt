@@ -1,6 +1,6 @@
 -- "Bus and actions": what each of the ten kinds of action does. An action is about one node i: it makes a report, the bus goes to a phase, and that node's cell changes;
 -- beyond that a Start clears the misled marks, a reset the won marks, and the bus's own mark is set by the Prefix that closes an acknowledgement and cleared where the bus becomes Idle.
--- So each action is a function of the few values that it looks at.
+-- So each action is a function of the few values that it looks at. Where a node gets a signal, what it does with it is the function h: the chart `hears`, which a table may stand for.
 use mathlib.Core.Bool.{Bool, true, false, cond, _&&_, _||_, not}
 use Prim.Native.Nat.{ℕ, suc}
 use lib.Dec.{eqb, ltb}
@@ -28,7 +28,7 @@ use Rattle.charts.specs.declared.Move.{Move}
 use Rattle.charts.specs.declared.Move.the-variants.{Request, Arbitrate, Respond, Clock, Carry, Grant, GapNext, Reset}
 use Rattle.charts.specs.Modes.{isRest, isHolding, isAnswering, isAcking, isTold, isOwed}
 use Rattle.charts.specs.Signals.{isStart, isEnd, isPrefix}
-use Rattle.charts.specs.Reception.{hears}
+use Rattle.charts.specs.Reception.{Reception}
 use Rattle.charts.specs.Outputs.{output}
 use Rattle.charts.specs.Arrivals.{arrives}
 use Rattle.charts.specs.State.{setMode, setBuffer, setSending, setWon, setPending, setHolder, setMisled, upd, some, others, lowest, isIdle, isBusy, isGranting, isEmpty}
@@ -132,18 +132,18 @@ hearing c x misleads = setMode (x .mode) (setPending (c .pending || x .pends) (s
 abbrev pub delivers : ℕ → ℕ → Signal → ℕ → (ℕ → Bool) → Report → Cell → Outcome
 delivers n i s j ps r c = does r (onward n i s j (upd ps j (c .pending))) c M.Nothing
 
-abbrev pub deliverWith : ℕ → ℕ → Signal → ℕ → Cell → (ℕ → Bool) → Arrival → Outcome
-deliverWith n i s j c ps A.Closed = closed
-deliverWith n i s j c ps A.Lost = delivers n i s j ps R.Silent c
-deliverWith n i s j c ps (A.Hears t misleads) = delivers n i s j ps (hears j (c .mode) t .report) (hearing c (hears j (c .mode) t) misleads)
+abbrev pub deliverWith : Reception → ℕ → ℕ → Signal → ℕ → Cell → (ℕ → Bool) → Arrival → Outcome
+deliverWith h n i s j c ps A.Closed = closed
+deliverWith h n i s j c ps A.Lost = delivers n i s j ps R.Silent c
+deliverWith h n i s j c ps (A.Hears t misleads) = delivers n i s j ps (h j (c .mode) t .report) (hearing c (h j (c .mode) t) misleads)
 
 -- "bus Delivering, as for 6 and 7"
-unfoldable pub carry : ℕ → Phase → Cell → (ℕ → Bool) → Way → Outcome
-carry n Idle c ps w = closed
-carry n Busy c ps w = closed
-carry n (Delivering i s j) c ps w = deliverWith n i s j c ps (arrives w (c .misled) s)
-carry n Granting c ps w = closed
-carry n (Gapping j) c ps w = closed
+unfoldable pub carry : Reception → ℕ → Phase → Cell → (ℕ → Bool) → Way → Outcome
+carry h n Idle c ps w = closed
+carry h n Busy c ps w = closed
+carry h n (Delivering i s j) c ps w = deliverWith h n i s j c ps (arrives w (c .misled) s)
+carry h n Granting c ps w = closed
+carry h n (Gapping j) c ps w = closed
 
 -- 8. grant: "bus Granting. The lowest pending node, if any, stops being pending and becomes holder: Told → Answering, Owed → Spurious, another mode kept.
 -- If none is pending after that: Busy."
@@ -163,22 +163,22 @@ grant n ph i c ps =
     (quietly Busy c))
 
 -- 9. gap: "bus Gapping. The next node gets Gap; after node n−1 the bus is Idle."
-abbrev pub takesGap : ℕ → Cell → Cell
-takesGap j c = setMode (hears j (c .mode) Gap .mode) c
+abbrev pub takesGap : Reception → ℕ → Cell → Cell
+takesGap h j c = hearing c (h j (c .mode) Gap) false
 
 -- the bus's mark, request 1: "cleared when the bus becomes Idle"
 abbrev pub markingAtIdle : Marking
 markingAtIdle = M.Concatenated false
 
-abbrev pub gapsTo : Phase → Marking → ℕ → Cell → Outcome
-gapsTo p x j c = does (hears j (c .mode) Gap .report) p (takesGap j c) x
+abbrev pub gapsTo : Reception → Phase → Marking → ℕ → Cell → Outcome
+gapsTo h p x j c = does (h j (c .mode) Gap .report) p (takesGap h j c) x
 
-unfoldable pub gap : ℕ → Phase → Cell → Outcome
-gap n Idle c = closed
-gap n Busy c = closed
-gap n (Delivering i s j) c = closed
-gap n Granting c = closed
-gap n (Gapping j) c = cond (ltb (suc j) n) (gapsTo (Gapping (suc j)) M.Nothing j c) (gapsTo Idle markingAtIdle j c)
+unfoldable pub gap : Reception → ℕ → Phase → Cell → Outcome
+gap h n Idle c = closed
+gap h n Busy c = closed
+gap h n (Delivering i s j) c = closed
+gap h n Granting c = closed
+gap h n (Gapping j) c = cond (ltb (suc j) n) (gapsTo h (Gapping (suc j)) M.Nothing j c) (gapsTo h Idle markingAtIdle j c)
 
 -- 10. reset: "bus Idle with some won mark; clears these marks"
 unfoldable pub reset : ℕ → Phase → Cell → (ℕ → Bool) → Outcome
@@ -203,12 +203,12 @@ target n ph ps GapNext = nextOf ph
 target n ph ps Reset = 0
 
 -- the outcome of an action about node i, whose cell is c; b is the bus's own mark, ws, ps and hs are the won, pending and holder marks of all nodes
-unfoldable pub outcome : ℕ → Phase → Bool → ℕ → Cell → (ℕ → Bool) → (ℕ → Bool) → (ℕ → Bool) → Move → Outcome
-outcome n ph b i c ws ps hs (Request j p) = request ph c p
-outcome n ph b i c ws ps hs (Arbitrate j) = arbitrate ph i c
-outcome n ph b i c ws ps hs (Respond j a hold) = respond ph b c a hold
-outcome n ph b i c ws ps hs (Clock j) = clock n ph i c hs
-outcome n ph b i c ws ps hs (Carry w) = carry n ph c ps w
-outcome n ph b i c ws ps hs Grant = grant n ph i c ps
-outcome n ph b i c ws ps hs GapNext = gap n ph c
-outcome n ph b i c ws ps hs Reset = reset n ph c ws
+unfoldable pub outcome : Reception → ℕ → Phase → Bool → ℕ → Cell → (ℕ → Bool) → (ℕ → Bool) → (ℕ → Bool) → Move → Outcome
+outcome h n ph b i c ws ps hs (Request j p) = request ph c p
+outcome h n ph b i c ws ps hs (Arbitrate j) = arbitrate ph i c
+outcome h n ph b i c ws ps hs (Respond j a hold) = respond ph b c a hold
+outcome h n ph b i c ws ps hs (Clock j) = clock n ph i c hs
+outcome h n ph b i c ws ps hs (Carry w) = carry h n ph c ps w
+outcome h n ph b i c ws ps hs Grant = grant n ph i c ps
+outcome h n ph b i c ws ps hs GapNext = gap h n ph c
+outcome h n ph b i c ws ps hs Reset = reset n ph c ws

@@ -1,7 +1,10 @@
 pub mod Numbers
 pub mod Modes
 pub mod Signals
+pub mod Words
+pub mod Places
 pub mod Reception
+pub mod Table
 pub mod Outputs
 pub mod Arrivals
 pub mod State

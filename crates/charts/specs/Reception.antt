@@ -83,6 +83,9 @@ answer me Spurious c s = goes Spurious
 -- Listening (request 1): "Start → Opened, Prefix stay, Gap → Rest, else Wait"
 answer me Listening c s = cond (eqb c S.start) (goes Opened) (cond (eqb c S.prefix) (goes Listening) (falls Silent Silent c))
 
--- what node `me` in a mode does with a signal
-unfoldable pub hears : ℕ → Mode → Signal → Heard
+-- what each node does with a signal, in each mode
+abbrev pub Reception : Type 0
+Reception = ℕ → Mode → Signal → Heard
+
+unfoldable pub hears : Reception
 hears me m s = answer me m (classOf me s) s

@@ -10,6 +10,7 @@ use Rattle.charts.specs.declared.Action.{Action}
 use Rattle.charts.specs.declared.Decoded.{Decoded}
 use Rattle.charts.specs.declared.Decoded.the-variants.{Refused, Accepted}
 use Rattle.charts.specs.Numbers as N
+use Rattle.charts.specs.Reception.{hears}
 use Rattle.charts.specs.State.{State, wons, pendings, holders, moved, remarked, fresh}
 use Rattle.charts.specs.Actions.{Outcome, closed, does, target, outcome}
 use Rattle.charts.specs.Records.{moveOf, read}
@@ -35,7 +36,7 @@ abbrev pub about : State → Move → ℕ
 about s m = target (s .n) (s .phase) (pendings (s .cell)) m
 
 abbrev pub comesTo : State → Move → Outcome
-comesTo s m = outcome (s .n) (s .phase) (s .concatenated) (about s m) (s .cell (about s m)) (wons (s .cell)) (pendings (s .cell)) (holders (s .cell)) m
+comesTo s m = outcome hears (s .n) (s .phase) (s .concatenated) (about s m) (s .cell (about s m)) (wons (s .cell)) (pendings (s .cell)) (holders (s .cell)) m
 
 unfoldable pub play : State → Move → Result
 play s m = carryOut s (about s m) (comesTo s m)

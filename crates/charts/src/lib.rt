@@ -133,6 +133,13 @@ pub struct Heard {
     pub pends: bool,
 }
 
+// A cell of the chart as a table: the next mode's place, the number of the report's first word, and whether a pending mark is made.
+pub struct Entry {
+    pub place: u8,
+    pub word: u8,
+    pub pends: bool,
+}
+
 // What a node does when it is clocked: nothing, end a holding that nobody hears, or put out a signal and go to a mode with a report.
 pub enum Output {
     Nothing,

@@ -1,4 +1,4 @@
--- The words of the reports, numbered so that those that tell come last.
+-- The first words of the reports by number, in the order of the type: those that tell come last. (`-` is the word of no report.)
 use Prim.Native.Nat.{ℕ}
 use Rattle.charts.specs.declared.Report.{Report}
 use Rattle.charts.specs.declared.Report.the-variants.{Silent, Won, Lost, Sent, Acked, Miss, Good, Dcrc, Broad}
