@@ -267,7 +267,7 @@ module _ (s : State) where
   gap Granting q = refuses
   gap (Gapping j) q =
       let got : (p : Phase) (x : Marking) → Effect s GapNext j (does (hears j (s .cell j .mode) Gap .report) p (afterGap j (s .cell j)) x) → Effect s GapNext j (Actions.gapsTo hears p x j (s .cell j))
-            = λ p x. subst (λ c. Effect s GapNext j (does (hears j (s .cell j .mode) Gap .report) p c x)) (sym (gap-takes j (s .cell j))) in
+      = λ p x. subst (λ c. Effect s GapNext j (does (hears j (s .cell j .mode) Gap .report) p c x)) (sym (gap-takes j (s .cell j))) in
       pick-by (Effect s GapNext j) (ltb (suc j) (s .n)) _ _
       (λ e. got (Gapping (suc j)) M.Nothing (gaps q (ltb-true (suc j) (s .n) e))) (λ e. got Idle markingAtIdle (settles q (ltb-false (suc j) (s .n) e)))
 

@@ -14,18 +14,15 @@ abbrev pub stepIn : Mode → ℕ
 stepIn Rest = 0
 stepIn AwaitAck = 0
 stepIn AckBody = 0
-stepIn (AckEnd (Sn.Ack a)) = 0
-stepIn (AckEnd Sn.Nothing) = 0
+stepIn (AckEnd x) = 0
 stepIn Opened = 0
 stepIn Addressed = 0
 stepIn HeadOwn = 0
 stepIn HeadAll = 0
 stepIn (BodyOwn h) = 0
 stepIn (BodyAll h) = 0
-stepIn (TailOwn h (D.Good d)) = 0
-stepIn (TailOwn h D.Bad) = 0
-stepIn (TailAll h (D.Good d)) = 0
-stepIn (TailAll h D.Bad) = 0
+stepIn (TailOwn h x) = 0
+stepIn (TailAll h x) = 0
 stepIn Wait = 0
 stepIn Owed = 0
 stepIn (Sending k) = k
@@ -48,10 +45,8 @@ ackIn HeadOwn = 0
 ackIn HeadAll = 0
 ackIn (BodyOwn h) = 0
 ackIn (BodyAll h) = 0
-ackIn (TailOwn h (D.Good d)) = 0
-ackIn (TailOwn h D.Bad) = 0
-ackIn (TailAll h (D.Good d)) = 0
-ackIn (TailAll h D.Bad) = 0
+ackIn (TailOwn h x) = 0
+ackIn (TailAll h x) = 0
 ackIn Wait = 0
 ackIn Owed = 0
 ackIn (Sending k) = 0
@@ -66,18 +61,15 @@ abbrev pub holdIn : Mode → Bool
 holdIn Rest = false
 holdIn AwaitAck = false
 holdIn AckBody = false
-holdIn (AckEnd (Sn.Ack a)) = false
-holdIn (AckEnd Sn.Nothing) = false
+holdIn (AckEnd x) = false
 holdIn Opened = false
 holdIn Addressed = false
 holdIn HeadOwn = false
 holdIn HeadAll = false
 holdIn (BodyOwn h) = false
 holdIn (BodyAll h) = false
-holdIn (TailOwn h (D.Good d)) = false
-holdIn (TailOwn h D.Bad) = false
-holdIn (TailAll h (D.Good d)) = false
-holdIn (TailAll h D.Bad) = false
+holdIn (TailOwn h x) = false
+holdIn (TailAll h x) = false
 holdIn Wait = false
 holdIn Owed = false
 holdIn (Sending k) = false
@@ -92,18 +84,15 @@ abbrev pub headIn : Mode → Head
 headIn Rest = record { header = 0 }
 headIn AwaitAck = record { header = 0 }
 headIn AckBody = record { header = 0 }
-headIn (AckEnd (Sn.Ack a)) = record { header = 0 }
-headIn (AckEnd Sn.Nothing) = record { header = 0 }
+headIn (AckEnd x) = record { header = 0 }
 headIn Opened = record { header = 0 }
 headIn Addressed = record { header = 0 }
 headIn HeadOwn = record { header = 0 }
 headIn HeadAll = record { header = 0 }
 headIn (BodyOwn h) = h
 headIn (BodyAll h) = h
-headIn (TailOwn h (D.Good d)) = h
-headIn (TailOwn h D.Bad) = h
-headIn (TailAll h (D.Good d)) = h
-headIn (TailAll h D.Bad) = h
+headIn (TailOwn h x) = h
+headIn (TailAll h x) = h
 headIn Wait = record { header = 0 }
 headIn Owed = record { header = 0 }
 headIn (Sending k) = record { header = 0 }
@@ -118,8 +107,7 @@ abbrev pub datumIn : Mode → ℕ
 datumIn Rest = 0
 datumIn AwaitAck = 0
 datumIn AckBody = 0
-datumIn (AckEnd (Sn.Ack a)) = 0
-datumIn (AckEnd Sn.Nothing) = 0
+datumIn (AckEnd x) = 0
 datumIn Opened = 0
 datumIn Addressed = 0
 datumIn HeadOwn = 0

@@ -1,12 +1,10 @@
 // One node's link layer: what it does with a signal, what it puts out when it is clocked, and what arrives of a signal on its way to it.
 ghost use mathlib.Core.Path.{_≡_};
-ghost use Rattle.charts.specs.declared.Signal.the-variants as S;
-ghost use Rattle.charts.specs.Reception.{hears, tells, goes, toldOf, broadOf};
 ghost use Rattle.charts.specs.Outputs.{output, puts, sends, acks};
 ghost use Rattle.charts.specs.Arrivals.{arrives, passed, lost, changed};
+ghost use Rattle.link.specs.Reading.{enters, says, heardBy};
 use charts::Arrival;
 use charts::Datum;
-use charts::Head;
 use charts::Heard;
 use charts::Mode;
 use charts::Output;
@@ -17,178 +15,74 @@ use charts::Signal;
 use charts::Way;
 
 pub mod modes;
+pub mod rules;
 pub mod signals;
+pub mod table;
+pub mod words;
 
-fn tells(mode: Mode, report: Report) -> Heard
-    ensures { λ r. ⌜ r ≡ tells mode report ⌝ }
+// The mode at a place that a node in a mode comes to by a signal, with what it remembers from then on.
+fn enter(place: u8, mode: Mode, s: Signal) -> Mode
+    ensures { λ r. ⌜ r ≡ enters place mode s ⌝ }
 {
+    match place {
+        modes::REST => Mode::Rest,
+        modes::ACK_BODY => Mode::AckBody,
+        modes::ACK_GOOD => Mode::AckEnd(Seen::Ack(signals::ack_of(s))),
+        modes::ACK_NONE => Mode::AckEnd(Seen::Nothing),
+        modes::OPENED => Mode::Opened,
+        modes::ADDRESSED => Mode::Addressed,
+        modes::HEAD_OWN => Mode::HeadOwn,
+        modes::HEAD_ALL => Mode::HeadAll,
+        modes::BODY_OWN => Mode::BodyOwn(signals::head_of(s)),
+        modes::BODY_ALL => Mode::BodyAll(signals::head_of(s)),
+        modes::TAIL_OWN_GOOD => {
+            Mode::TailOwn(modes::head_in(mode), Datum::Good(signals::datum_of(s)))
+        }
+        modes::TAIL_OWN_BAD => Mode::TailOwn(modes::head_in(mode), Datum::Bad),
+        modes::TAIL_ALL_GOOD => {
+            Mode::TailAll(modes::head_in(mode), Datum::Good(signals::datum_of(s)))
+        }
+        modes::TAIL_ALL_BAD => Mode::TailAll(modes::head_in(mode), Datum::Bad),
+        modes::WAIT => Mode::Wait,
+        modes::OWED => Mode::Owed,
+        modes::TOLD => Mode::Told,
+        modes::LISTENING => Mode::Listening,
+        _ => mode,
+    }
+}
+
+// The report with that first word of node `me` in a mode.
+fn say(word: u8, me: u8, mode: Mode) -> Report
+    ensures { λ r. ⌜ r ≡ says word me mode ⌝ }
+{
+    match word {
+        words::ACK => Report::Acked(me, modes::ack_in(mode)),
+        words::MISS => Report::Miss(me),
+        words::GOOD => Report::Good(me, modes::head_in(mode), modes::datum_in(mode)),
+        words::DCRC => Report::Dcrc(me, modes::head_in(mode)),
+        words::BROAD => Report::Broad(me, modes::head_in(mode), modes::datum_in(mode)),
+        _ => Report::Silent,
+    }
+}
+
+// What node `me` in a mode does with a signal, by a table of the chart: it looks its cell up, and adds what modes remember.
+// With the chart's own table this is what the chart says (proofs/Reading.antt).
+pub fn receive(table: &[u16; 336], me: u8, mode: Mode, s: Signal) -> Heard
+    ensures { λ r. ⌜ r ≡ heardBy (now (table .entry)) me mode s ⌝ }
+{
+    let place = modes::place_of(mode);
+    let cell = table::cell_at(table, place, signals::class_of(me, s));
+    if cell == place as u16 {
+        return Heard {
+            mode: mode,
+            report: Report::Silent,
+            pends: false,
+        };
+    }
     Heard {
-        mode: mode,
-        report: report,
-        pends: false,
-    }
-}
-
-fn goes(mode: Mode) -> Heard
-    ensures { λ r. ⌜ r ≡ goes mode ⌝ }
-{
-    tells(mode, Report::Silent)
-}
-
-// "report good h d, or dcrc h for bad data"
-fn told(me: u8, h: Head, d: Datum) -> Report
-    ensures { λ r. ⌜ r ≡ toldOf me h d ⌝ }
-{
-    match d {
-        Datum::Good(x) => Report::Good(me, h, x),
-        Datum::Bad => Report::Dcrc(me, h),
-    }
-}
-
-// "report broad h d if the data were good, else nothing"
-fn broad(me: u8, h: Head, d: Datum) -> Report
-    ensures { λ r. ⌜ r ≡ broadOf me h d ⌝ }
-{
-    match d {
-        Datum::Good(x) => Report::Broad(me, h, x),
-        Datum::Bad => Report::Silent,
-    }
-}
-
-// What node `me` in a mode does with a signal. The numbers are the classes of signals::class_of: 0 Start, 1 End, 2 Prefix, 3 Gap, 4 Dhead,
-// 5 Dest own, 6 Dest 63, 7 another Dest, 8 and 9 Header, 10 and 11 Data, 12 and 13 Ack, the good one first.
-pub fn receive(me: u8, mode: Mode, s: Signal) -> Heard
-    ensures { λ r. ⌜ r ≡ hears me mode s ⌝ }
-{
-    let class = signals::class_of(me, s);
-    match mode {
-        Mode::Rest => match class {
-            0 => goes(Mode::Opened),
-            _ => goes(Mode::Rest),
-        },
-        Mode::AwaitAck => match class {
-            2 => goes(Mode::AwaitAck),
-            0 => goes(Mode::AckBody),
-            3 => tells(Mode::Rest, Report::Miss(me)),
-            _ => tells(Mode::Wait, Report::Miss(me)),
-        },
-        Mode::AckBody => match class {
-            3 => tells(Mode::Rest, Report::Miss(me)),
-            0..=2 => tells(Mode::Wait, Report::Miss(me)),
-            12 => goes(Mode::AckEnd(Seen::Ack(signals::ack_of(s)))),
-            _ => goes(Mode::AckEnd(Seen::Nothing)),
-        },
-        Mode::AckEnd(seen) => match seen {
-            Seen::Ack(a) => match class {
-                1 => tells(Mode::Wait, Report::Acked(me, a)),
-                2 => tells(Mode::Listening, Report::Acked(me, a)),
-                3 => tells(Mode::Rest, Report::Miss(me)),
-                _ => tells(Mode::Wait, Report::Miss(me)),
-            },
-            Seen::Nothing => match class {
-                3 => tells(Mode::Rest, Report::Miss(me)),
-                _ => tells(Mode::Wait, Report::Miss(me)),
-            },
-        },
-        Mode::Opened => match class {
-            3 => goes(Mode::Rest),
-            0..=2 => goes(Mode::Wait),
-            _ => goes(Mode::Addressed),
-        },
-        Mode::Addressed => match class {
-            5 => Heard {
-                mode: Mode::HeadOwn,
-                report: Report::Silent,
-                pends: true,
-            },
-            6 => goes(Mode::HeadAll),
-            3 => goes(Mode::Rest),
-            _ => goes(Mode::Wait),
-        },
-        Mode::HeadOwn => match class {
-            8 => goes(Mode::BodyOwn(signals::head_of(s))),
-            _ => goes(Mode::Owed),
-        },
-        Mode::HeadAll => match class {
-            8 => goes(Mode::BodyAll(signals::head_of(s))),
-            3 => goes(Mode::Rest),
-            _ => goes(Mode::Wait),
-        },
-        Mode::BodyOwn(h) => match class {
-            10 => goes(Mode::TailOwn(h, Datum::Good(signals::datum_of(s)))),
-            11 => goes(Mode::TailOwn(h, Datum::Bad)),
-            _ => goes(Mode::Owed),
-        },
-        Mode::BodyAll(h) => match class {
-            10 => goes(Mode::TailAll(h, Datum::Good(signals::datum_of(s)))),
-            11 => goes(Mode::TailAll(h, Datum::Bad)),
-            3 => goes(Mode::Rest),
-            _ => goes(Mode::Wait),
-        },
-        Mode::TailOwn(h, d) => match class {
-            1..=2 => tells(Mode::Told, told(me, h, d)),
-            _ => goes(Mode::Owed),
-        },
-        Mode::TailAll(h, d) => match class {
-            1..=2 => tells(Mode::Rest, broad(me, h, d)),
-            3 => goes(Mode::Rest),
-            _ => goes(Mode::Wait),
-        },
-        Mode::Wait => match class {
-            3 => goes(Mode::Rest),
-            _ => goes(Mode::Wait),
-        },
-        Mode::Owed => goes(mode),
-        Mode::Sending(_) => goes(mode),
-        Mode::Told => goes(mode),
-        Mode::Answering => goes(mode),
-        Mode::Acking {
-            step: _,
-            ack: _,
-            hold: _,
-        } => goes(mode),
-        Mode::Holding => goes(mode),
-        Mode::Spurious => goes(mode),
-        Mode::Listening => match class {
-            0 => goes(Mode::Opened),
-            2 => goes(Mode::Listening),
-            3 => goes(Mode::Rest),
-            _ => goes(Mode::Wait),
-        },
-    }
-}
-
-// What node `me` in a mode does with a Gap: the same as `receive`, for the one signal that the bus itself gives. (Called from one place alone,
-// `receive` is compiled into the step and its modes are not copied; a call from the gap action as well would cost a third more time.)
-pub fn receive_gap(me: u8, mode: Mode) -> Heard
-    ensures { λ r. ⌜ r ≡ hears me mode S.Gap ⌝ }
-{
-    match mode {
-        Mode::Rest => goes(Mode::Rest),
-        Mode::AwaitAck => tells(Mode::Rest, Report::Miss(me)),
-        Mode::AckBody => tells(Mode::Rest, Report::Miss(me)),
-        Mode::AckEnd(_) => tells(Mode::Rest, Report::Miss(me)),
-        Mode::Opened => goes(Mode::Rest),
-        Mode::Addressed => goes(Mode::Rest),
-        Mode::HeadOwn => goes(Mode::Owed),
-        Mode::HeadAll => goes(Mode::Rest),
-        Mode::BodyOwn(_) => goes(Mode::Owed),
-        Mode::BodyAll(_) => goes(Mode::Rest),
-        Mode::TailOwn(_, _) => goes(Mode::Owed),
-        Mode::TailAll(_, _) => goes(Mode::Rest),
-        Mode::Wait => goes(Mode::Rest),
-        Mode::Owed => goes(mode),
-        Mode::Sending(_) => goes(mode),
-        Mode::Told => goes(mode),
-        Mode::Answering => goes(mode),
-        Mode::Acking {
-            step: _,
-            ack: _,
-            hold: _,
-        } => goes(mode),
-        Mode::Holding => goes(mode),
-        Mode::Spurious => goes(mode),
-        Mode::Listening => goes(Mode::Rest),
+        mode: enter(table::place_in(cell), mode, s),
+        report: say(table::word_in(cell), me, mode),
+        pends: table::pends_in(cell),
     }
 }
 

@@ -4,28 +4,57 @@ ghost use Rattle.charts.specs.Signals.{classOf, kindOf, headOf, datumOf, ackOf,
 use charts::Head;
 use charts::Signal;
 
-// The class of a signal as node `me` meets it, in the order of the charts.
+// The classes in which a node meets a signal, in the order of the charts.
+pub(crate) const START: u8 = 0;
+
+pub(crate) const END: u8 = 1;
+
+pub(crate) const PREFIX: u8 = 2;
+
+pub(crate) const GAP: u8 = 3;
+
+pub(crate) const DHEAD: u8 = 4;
+
+pub(crate) const DEST_OWN: u8 = 5;
+
+pub(crate) const DEST_ALL: u8 = 6;
+
+pub(crate) const DEST_OTHER: u8 = 7;
+
+pub(crate) const HEADER_GOOD: u8 = 8;
+
+pub(crate) const HEADER_BAD: u8 = 9;
+
+pub(crate) const DATA_GOOD: u8 = 10;
+
+pub(crate) const DATA_BAD: u8 = 11;
+
+pub(crate) const ACK_GOOD: u8 = 12;
+
+pub(crate) const ACK_BAD: u8 = 13;
+
+// The class of a signal as node `me` meets it.
 pub(crate) fn class_of(me: u8, s: Signal) -> u8
     ensures { λ r. ⌜ r ≡ classOf me s ⌝ }
 {
     match s {
-        Signal::Start => 0,
-        Signal::End => 1,
-        Signal::Prefix => 2,
-        Signal::Gap => 3,
-        Signal::Dhead => 4,
+        Signal::Start => START,
+        Signal::End => END,
+        Signal::Prefix => PREFIX,
+        Signal::Gap => GAP,
+        Signal::Dhead => DHEAD,
         Signal::Dest(a) => {
             if a == me {
-                5
+                DEST_OWN
             } else if a == 63 {
-                6
+                DEST_ALL
             } else {
-                7
+                DEST_OTHER
             }
         }
-        Signal::Header(_, good) => { if good { 8 } else { 9 } }
-        Signal::Data(_, good) => { if good { 10 } else { 11 } }
-        Signal::Ack(_, good) => { if good { 12 } else { 13 } }
+        Signal::Header(_, good) => { if good { HEADER_GOOD } else { HEADER_BAD } }
+        Signal::Data(_, good) => { if good { DATA_GOOD } else { DATA_BAD } }
+        Signal::Ack(_, good) => { if good { ACK_GOOD } else { ACK_BAD } }
     }
 }
 

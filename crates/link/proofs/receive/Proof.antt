@@ -1,608 +1,70 @@
-use Rattle.charts.specs.Reception.{hears}
+use mathlib.Core.Path.{sym, subst}
+use Prim.Native.Nat.{_<_}
+use Rattle.charts.proofs.Places.{place-lt, class-lt}
+use Rattle.link.specs.Reading.{heardBy}
 use mathlib.Core.Logic.{⊎-elim}
-use borrow.Author.Tests.{ne-eqb, lt-ltb, le-ltb}
+use borrow.Author.Tests.{eq-eqb, ne-eqb, lt-ltb, le-ltb, le-leb, lt-leb}
 use borrow.Author.Needs.{needs}
 use Rattle.link.proofs.receive.Statement.{statement}
 use Rattle.link.proofs.receive.Tie as tie
+use Rattle.link.proofs.receive.Reads as reads
+use Rattle.link.proofs.receive.Lts as lts
+use Rattle.link.proofs.enter.Reads as enter-reads
+use Rattle.link.proofs.modes.place_of.Reads as place-of-reads
+use Rattle.link.proofs.say.Reads as say-reads
+use Rattle.link.proofs.signals.class_of.Reads as class-of-reads
+use Rattle.link.proofs.table.cell_at.Reads as cell-at-reads
+use Rattle.link.proofs.table.pends_in.Reads as pends-in-reads
+use Rattle.link.proofs.table.place_in.Reads as place-in-reads
+use Rattle.link.proofs.table.word_in.Reads as word-in-reads
+
+place-of-requires : tie.Need-place-of-requires
+place-of-requires c κs = search needs
 
 class-of-requires : tie.Need-class-of-requires
 class-of-requires c κs = search needs
 
-enum-told : tie.Need-enum-told
-enum-told c = search needs
-
-goes-requires : tie.Need-goes-requires
-goes-requires c κs = search needs
-
-goes-requires-2 : tie.Need-goes-requires-2
-goes-requires-2 c κs = search needs
-
-enum-told-2 : tie.Need-enum-told-2
-enum-told-2 c = search needs
-
-goes-requires-3 : tie.Need-goes-requires-3
-goes-requires-3 c κs = search needs
-
-goes-requires-4 : tie.Need-goes-requires-4
-goes-requires-4 c κs = search needs
-
-tells-requires : tie.Need-tells-requires
-tells-requires c κs = search needs
-
-tells-requires-2 : tie.Need-tells-requires-2
-tells-requires-2 c κs = search needs
-
-enum-told-3 : tie.Need-enum-told-3
-enum-told-3 c = search needs
-
-tells-requires-3 : tie.Need-tells-requires-3
-tells-requires-3 c κs = search needs
-
-ack-of-requires : tie.Need-ack-of-requires
-ack-of-requires c κs = search needs
-
-goes-requires-5 : tie.Need-goes-requires-5
-goes-requires-5 c κs = search needs
-
-tells-requires-4 : tie.Need-tells-requires-4
-tells-requires-4 c κs = search needs
-
-goes-requires-6 : tie.Need-goes-requires-6
-goes-requires-6 c κs = search needs
-
-enum-known-mode : tie.Need-enum-known-mode
-enum-known-mode c = search needs
-
-enum-known-seen : tie.Need-enum-known-seen
-enum-known-seen c = search needs
-
-tells-requires-5 : tie.Need-tells-requires-5
-tells-requires-5 c κs = search needs
-
-tells-requires-6 : tie.Need-tells-requires-6
-tells-requires-6 c κs = search needs
-
-tells-requires-7 : tie.Need-tells-requires-7
-tells-requires-7 c κs = search needs
-
-tells-requires-8 : tie.Need-tells-requires-8
-tells-requires-8 c κs = search needs
-
-enum-told-4 : tie.Need-enum-told-4
-enum-told-4 c = search needs
-
-tells-requires-9 : tie.Need-tells-requires-9
-tells-requires-9 c κs = search needs
-
-tells-requires-10 : tie.Need-tells-requires-10
-tells-requires-10 c κs = search needs
-
-enum-told-5 : tie.Need-enum-told-5
-enum-told-5 c = search needs
-
-goes-requires-7 : tie.Need-goes-requires-7
-goes-requires-7 c κs = search needs
-
-goes-requires-8 : tie.Need-goes-requires-8
-goes-requires-8 c κs = search needs
-
-goes-requires-9 : tie.Need-goes-requires-9
-goes-requires-9 c κs = search needs
-
-enum-told-6 : tie.Need-enum-told-6
-enum-told-6 c = search needs
-
-goes-requires-10 : tie.Need-goes-requires-10
-goes-requires-10 c κs = search needs
-
-goes-requires-11 : tie.Need-goes-requires-11
-goes-requires-11 c κs = search needs
-
-goes-requires-12 : tie.Need-goes-requires-12
-goes-requires-12 c κs = search needs
-
-enum-told-7 : tie.Need-enum-told-7
-enum-told-7 c = search needs
-
-head-of-requires : tie.Need-head-of-requires
-head-of-requires c κs = search needs
-
-goes-requires-13 : tie.Need-goes-requires-13
-goes-requires-13 c κs = search needs
-
-goes-requires-14 : tie.Need-goes-requires-14
-goes-requires-14 c κs = search needs
-
-enum-told-8 : tie.Need-enum-told-8
-enum-told-8 c = search needs
-
-head-of-requires-2 : tie.Need-head-of-requires-2
-head-of-requires-2 c κs = search needs
-
-goes-requires-15 : tie.Need-goes-requires-15
-goes-requires-15 c κs = search needs
-
-goes-requires-16 : tie.Need-goes-requires-16
-goes-requires-16 c κs = search needs
-
-goes-requires-17 : tie.Need-goes-requires-17
-goes-requires-17 c κs = search needs
-
-enum-known-mode-2 : tie.Need-enum-known-mode-2
-enum-known-mode-2 c = search needs
-
-datum-of-requires : tie.Need-datum-of-requires
-datum-of-requires c κs = search needs
-
-goes-requires-18 : tie.Need-goes-requires-18
-goes-requires-18 c κs = search needs
-
-goes-requires-19 : tie.Need-goes-requires-19
-goes-requires-19 c κs = search needs
-
-goes-requires-20 : tie.Need-goes-requires-20
-goes-requires-20 c κs = search needs
-
-enum-known-mode-3 : tie.Need-enum-known-mode-3
-enum-known-mode-3 c = search needs
-
-datum-of-requires-2 : tie.Need-datum-of-requires-2
-datum-of-requires-2 c κs = search needs
-
-goes-requires-21 : tie.Need-goes-requires-21
-goes-requires-21 c κs = search needs
-
-goes-requires-22 : tie.Need-goes-requires-22
-goes-requires-22 c κs = search needs
-
-goes-requires-23 : tie.Need-goes-requires-23
-goes-requires-23 c κs = search needs
-
-goes-requires-24 : tie.Need-goes-requires-24
-goes-requires-24 c κs = search needs
-
-enum-known-mode-4 : tie.Need-enum-known-mode-4
-enum-known-mode-4 c = search needs
-
-told-requires : tie.Need-told-requires
-told-requires c κs = search needs
-
-tells-requires-11 : tie.Need-tells-requires-11
-tells-requires-11 c κs = search needs
-
-goes-requires-25 : tie.Need-goes-requires-25
-goes-requires-25 c κs = search needs
-
-enum-known-mode-5 : tie.Need-enum-known-mode-5
-enum-known-mode-5 c = search needs
-
-goes-requires-26 : tie.Need-goes-requires-26
-goes-requires-26 c κs = search needs
-
-broad-requires : tie.Need-broad-requires
-broad-requires c κs = search needs
-
-tells-requires-12 : tie.Need-tells-requires-12
-tells-requires-12 c κs = search needs
-
-goes-requires-27 : tie.Need-goes-requires-27
-goes-requires-27 c κs = search needs
-
-enum-told-9 : tie.Need-enum-told-9
-enum-told-9 c = search needs
-
-goes-requires-28 : tie.Need-goes-requires-28
-goes-requires-28 c κs = search needs
-
-goes-requires-29 : tie.Need-goes-requires-29
-goes-requires-29 c κs = search needs
-
-enum-told-10 : tie.Need-enum-told-10
-enum-told-10 c = search needs
-
-goes-requires-30 : tie.Need-goes-requires-30
-goes-requires-30 c κs = search needs
-
-enum-told-11 : tie.Need-enum-told-11
-enum-told-11 c = search needs
-
-goes-requires-31 : tie.Need-goes-requires-31
-goes-requires-31 c κs = search needs
-
-enum-told-12 : tie.Need-enum-told-12
-enum-told-12 c = search needs
-
-goes-requires-32 : tie.Need-goes-requires-32
-goes-requires-32 c κs = search needs
-
-enum-told-13 : tie.Need-enum-told-13
-enum-told-13 c = search needs
-
-goes-requires-33 : tie.Need-goes-requires-33
-goes-requires-33 c κs = search needs
-
-enum-told-14 : tie.Need-enum-told-14
-enum-told-14 c = search needs
-
-goes-requires-34 : tie.Need-goes-requires-34
-goes-requires-34 c κs = search needs
-
-enum-told-15 : tie.Need-enum-told-15
-enum-told-15 c = search needs
-
-goes-requires-35 : tie.Need-goes-requires-35
-goes-requires-35 c κs = search needs
-
-enum-told-16 : tie.Need-enum-told-16
-enum-told-16 c = search needs
-
-goes-requires-36 : tie.Need-goes-requires-36
-goes-requires-36 c κs = search needs
-
-enum-told-17 : tie.Need-enum-told-17
-enum-told-17 c = search needs
-
-goes-requires-37 : tie.Need-goes-requires-37
-goes-requires-37 c κs = search needs
-
-goes-requires-38 : tie.Need-goes-requires-38
-goes-requires-38 c κs = search needs
-
-goes-requires-39 : tie.Need-goes-requires-39
-goes-requires-39 c κs = search needs
-
-goes-requires-40 : tie.Need-goes-requires-40
-goes-requires-40 c κs = search needs
+cell-at-requires : tie.Need-cell-at-requires
+cell-at-requires c κs = (subst (λ x. x < 24) (sym (c .before .place-of .ensures)) (place-lt (c .before .before .args .mode)), subst (λ x. x < 14) (sym (c .class-of .ensures)) (class-lt (c .before .before .args .me) (c .before .before .args .s)))
+
+cast-if1 : tie.Need-cast-if1
+cast-if1 c = search needs
 
 returns : tie.Need-returns
-unfolding hears
-returns c = simp (← c .before .before .before .before .class-of .ensures, c .before .before .enum-told .given .1, c .before .match2 .keys1, c .goes .ensures)
+unfolding heardBy
+returns c = simp (← c .before .before .before .place-of .ensures, ← c .before .before .class-of .ensures, ← c .before .cell-at .ensures, eq-eqb _ _ (c .if1 .taken))
+
+place-in-requires : tie.Need-place-in-requires
+place-in-requires c κs = search needs
+
+enter-requires : tie.Need-enter-requires
+enter-requires c κs = search needs
+
+word-in-requires : tie.Need-word-in-requires
+word-in-requires c κs = search needs
+
+say-requires : tie.Need-say-requires
+say-requires c κs = search needs
+
+pends-in-requires : tie.Need-pends-in-requires
+pends-in-requires c κs = search needs
 
 returns-2 : tie.Need-returns-2
-unfolding hears
-returns-2 c = simp (← c .before .before .before .before .class-of .ensures, c .before .before .enum-told .given .1, ne-eqb _ _ (c .before .match2 .rest .1), c .goes2 .ensures)
-
-returns-3 : tie.Need-returns-3
-unfolding hears
-returns-3 c = simp (← c .before .before .before .before .class-of .ensures, c .before .before .enum-told2 .given .1, c .before .match3 .keys1, c .goes3 .ensures)
-
-returns-4 : tie.Need-returns-4
-unfolding hears
-returns-4 c = simp (← c .before .before .before .before .class-of .ensures, c .before .before .enum-told2 .given .1, c .before .match3 .keys2, c .goes4 .ensures)
-
-returns-5 : tie.Need-returns-5
-unfolding hears
-returns-5 c = simp (← c .before .before .before .before .class-of .ensures, c .before .before .enum-told2 .given .1, c .before .match3 .keys3, c .tells .ensures)
-
-returns-6 : tie.Need-returns-6
-unfolding hears
-returns-6 c = simp (← c .before .before .before .before .class-of .ensures, c .before .before .enum-told2 .given .1, ne-eqb _ _ (c .before .match3 .rest .0 .0 .1), ne-eqb _ _ (c .before .match3 .rest .0 .1), ne-eqb _ _ (c .before .match3 .rest .1), c .tells2 .ensures)
-
-returns-7 : tie.Need-returns-7
-unfolding hears
-returns-7 c = simp (← c .before .before .before .before .class-of .ensures, c .before .before .enum-told3 .given .1, c .before .match4 .keys1, c .tells3 .ensures)
-
-returns-8 : tie.Need-returns-8
-unfolding hears
-returns-8 c = simp (← c .before .before .before .before .before .class-of .ensures, c .before .before .before .enum-told3 .given .1, c .before .before .match4 .keys2, c .before .ack-of .ensures, c .goes5 .ensures)
-
-returns-9 : tie.Need-returns-9
-unfolding hears
-returns-9 c = simp (← c .before .before .before .before .before .class-of .ensures, c .before .before .before .enum-told3 .given .1, ne-eqb _ _ (c .before .before .match4 .rest .0 .1), ne-eqb _ _ (c .before .before .match4 .rest .1), lt-ltb _ _ (c .before .if1 .taken), c .tells4 .ensures)
-
-returns-10 : tie.Need-returns-10
-unfolding hears
-returns-10 c = simp (← c .before .before .before .before .before .class-of .ensures, c .before .before .before .enum-told3 .given .1, ne-eqb _ _ (c .before .before .match4 .rest .0 .1), ne-eqb _ _ (c .before .before .match4 .rest .1), le-ltb _ _ (c .before .if1 .left), c .goes6 .ensures)
-
-returns-11 : tie.Need-returns-11
-unfolding hears
-returns-11 c = simp (← c .before .before .before .before .before .before .before .before .class-of .ensures, c .before .before .before .before .before .before .mode .given .1, c .before .before .before .seen .given .1, c .before .match6 .keys1, c .tells5 .ensures)
-
-returns-12 : tie.Need-returns-12
-unfolding hears
-returns-12 c = simp (← c .before .before .before .before .before .before .before .before .class-of .ensures, c .before .before .before .before .before .before .mode .given .1, c .before .before .before .seen .given .1, c .before .match6 .keys2, c .tells6 .ensures)
-
-returns-13 : tie.Need-returns-13
-unfolding hears
-returns-13 c = simp (← c .before .before .before .before .before .before .before .before .class-of .ensures, c .before .before .before .before .before .before .mode .given .1, c .before .before .before .seen .given .1, c .before .match6 .keys3, c .tells7 .ensures)
-
-returns-14 : tie.Need-returns-14
-unfolding hears
-returns-14 c = simp (← c .before .before .before .before .before .before .before .before .class-of .ensures, c .before .before .before .before .before .before .mode .given .1, c .before .before .before .seen .given .1, ne-eqb _ _ (c .before .match6 .rest .0 .0 .1), ne-eqb _ _ (c .before .match6 .rest .0 .1), ne-eqb _ _ (c .before .match6 .rest .1), c .tells8 .ensures)
-
-returns-15 : tie.Need-returns-15
-unfolding hears
-returns-15 c = simp (← c .before .before .before .before .before .before .before .class-of .ensures, c .before .before .before .before .before .mode .given .1, c .before .before .enum-told4 .given .1, c .before .match7 .keys1, c .tells9 .ensures)
-
-returns-16 : tie.Need-returns-16
-unfolding hears
-returns-16 c = simp (← c .before .before .before .before .before .before .before .class-of .ensures, c .before .before .before .before .before .mode .given .1, c .before .before .enum-told4 .given .1, ne-eqb _ _ (c .before .match7 .rest .1), c .tells10 .ensures)
-
-returns-17 : tie.Need-returns-17
-unfolding hears
-returns-17 c = simp (← c .before .before .before .before .class-of .ensures, c .before .before .enum-told5 .given .1, c .before .match8 .keys1, c .goes7 .ensures)
-
-returns-18 : tie.Need-returns-18
-unfolding hears
-returns-18 c = simp (← c .before .before .before .before .before .class-of .ensures, c .before .before .before .enum-told5 .given .1, ne-eqb _ _ (c .before .before .match8 .rest .1), lt-ltb _ _ (c .before .if2 .taken), c .goes8 .ensures)
-
-returns-19 : tie.Need-returns-19
-unfolding hears
-returns-19 c = simp (← c .before .before .before .before .before .class-of .ensures, c .before .before .before .enum-told5 .given .1, ne-eqb _ _ (c .before .before .match8 .rest .1), le-ltb _ _ (c .before .if2 .left), c .goes9 .ensures)
-
-returns-20 : tie.Need-returns-20
-unfolding hears
-returns-20 c = simp (← c .before .before .before .class-of .ensures, c .before .enum-told6 .given .1, c .match9 .keys1)
-
-returns-21 : tie.Need-returns-21
-unfolding hears
-returns-21 c = simp (← c .before .before .before .before .class-of .ensures, c .before .before .enum-told6 .given .1, c .before .match9 .keys2, c .goes10 .ensures)
-
-returns-22 : tie.Need-returns-22
-unfolding hears
-returns-22 c = simp (← c .before .before .before .before .class-of .ensures, c .before .before .enum-told6 .given .1, c .before .match9 .keys3, c .goes11 .ensures)
-
-returns-23 : tie.Need-returns-23
-unfolding hears
-returns-23 c = simp (← c .before .before .before .before .class-of .ensures, c .before .before .enum-told6 .given .1, ne-eqb _ _ (c .before .match9 .rest .0 .0 .1), ne-eqb _ _ (c .before .match9 .rest .0 .1), ne-eqb _ _ (c .before .match9 .rest .1), c .goes12 .ensures)
-
-returns-24 : tie.Need-returns-24
-unfolding hears
-returns-24 c = simp (← c .before .before .before .before .before .class-of .ensures, c .before .before .before .enum-told7 .given .1, c .before .before .match10 .keys1, c .before .head-of .ensures, c .goes13 .ensures)
-
-returns-25 : tie.Need-returns-25
-unfolding hears
-returns-25 c = simp (← c .before .before .before .before .class-of .ensures, c .before .before .enum-told7 .given .1, ne-eqb _ _ (c .before .match10 .rest .1), c .goes14 .ensures)
-
-returns-26 : tie.Need-returns-26
-unfolding hears
-returns-26 c = simp (← c .before .before .before .before .before .class-of .ensures, c .before .before .before .enum-told8 .given .1, c .before .before .match11 .keys1, c .before .head-of2 .ensures, c .goes15 .ensures)
-
-returns-27 : tie.Need-returns-27
-unfolding hears
-returns-27 c = simp (← c .before .before .before .before .class-of .ensures, c .before .before .enum-told8 .given .1, c .before .match11 .keys2, c .goes16 .ensures)
-
-returns-28 : tie.Need-returns-28
-unfolding hears
-returns-28 c = simp (← c .before .before .before .before .class-of .ensures, c .before .before .enum-told8 .given .1, ne-eqb _ _ (c .before .match11 .rest .0 .1), ne-eqb _ _ (c .before .match11 .rest .1), c .goes17 .ensures)
-
-returns-29 : tie.Need-returns-29
-unfolding hears
-returns-29 c = simp (← c .before .before .before .before .before .before .class-of .ensures, c .before .before .before .before .mode2 .given .1, c .before .before .match12 .keys1, c .before .datum-of .ensures, c .goes18 .ensures)
-
-returns-30 : tie.Need-returns-30
-unfolding hears
-returns-30 c = simp (← c .before .before .before .before .before .class-of .ensures, c .before .before .before .mode2 .given .1, c .before .match12 .keys2, c .goes19 .ensures)
-
-returns-31 : tie.Need-returns-31
-unfolding hears
-returns-31 c = simp (← c .before .before .before .before .before .class-of .ensures, c .before .before .before .mode2 .given .1, ne-eqb _ _ (c .before .match12 .rest .0 .1), ne-eqb _ _ (c .before .match12 .rest .1), c .goes20 .ensures)
-
-returns-32 : tie.Need-returns-32
-unfolding hears
-returns-32 c = simp (← c .before .before .before .before .before .before .class-of .ensures, c .before .before .before .before .mode3 .given .1, c .before .before .match13 .keys1, c .before .datum-of2 .ensures, c .goes21 .ensures)
-
-returns-33 : tie.Need-returns-33
-unfolding hears
-returns-33 c = simp (← c .before .before .before .before .before .class-of .ensures, c .before .before .before .mode3 .given .1, c .before .match13 .keys2, c .goes22 .ensures)
-
-returns-34 : tie.Need-returns-34
-unfolding hears
-returns-34 c = simp (← c .before .before .before .before .before .class-of .ensures, c .before .before .before .mode3 .given .1, c .before .match13 .keys3, c .goes23 .ensures)
-
-returns-35 : tie.Need-returns-35
-unfolding hears
-returns-35 c = simp (← c .before .before .before .before .before .class-of .ensures, c .before .before .before .mode3 .given .1, ne-eqb _ _ (c .before .match13 .rest .0 .0 .1), ne-eqb _ _ (c .before .match13 .rest .0 .1), ne-eqb _ _ (c .before .match13 .rest .1), c .goes24 .ensures)
-
-returns-36 : tie.Need-returns-36
-unfolding hears
-returns-36 c = simp (← c .before .before .before .before .before .before .before .class-of .ensures, c .before .before .before .before .before .mode4 .given .1, le-ltb _ _ (c .before .before .before .if3 .left), lt-ltb _ _ (c .before .before .if4 .taken), c .before .told .ensures, c .tells11 .ensures)
-
-returns-37 : tie.Need-returns-37
-unfolding hears
-returns-37 c = simp (← c .before .before .before .before .before .class-of .ensures, c .before .before .before .mode4 .given .1, c .goes25 .ensures) (⊎-elim (λ w. simp (lt-ltb _ _ (w .taken), ← c .before .before .before .before .before .class-of .ensures, c .before .before .before .mode4 .given .1, c .goes25 .ensures)) (λ w. simp (le-ltb _ _ (w .0 .left), le-ltb _ _ (w .1 .left), ← c .before .before .before .before .before .class-of .ensures, c .before .before .before .mode4 .given .1, c .goes25 .ensures)) (c .before .if3 .came))
-
-returns-38 : tie.Need-returns-38
-unfolding hears
-returns-38 c = simp (← c .before .before .before .before .before .class-of .ensures, c .before .before .before .mode5 .given .1, c .before .match14 .keys1, c .goes26 .ensures)
-
-returns-39 : tie.Need-returns-39
-unfolding hears
-returns-39 c = simp (← c .before .before .before .before .before .before .before .before .class-of .ensures, c .before .before .before .before .before .before .mode5 .given .1, ne-eqb _ _ (c .before .before .before .before .match14 .rest .1), le-ltb _ _ (c .before .before .before .if5 .left), lt-ltb _ _ (c .before .before .if6 .taken), c .before .broad .ensures, c .tells12 .ensures)
-
-returns-40 : tie.Need-returns-40
-unfolding hears
-returns-40 c = simp (← c .before .before .before .before .before .before .class-of .ensures, c .before .before .before .before .mode5 .given .1, ne-eqb _ _ (c .before .before .match14 .rest .1), c .goes27 .ensures) (⊎-elim (λ w. simp (lt-ltb _ _ (w .taken), ← c .before .before .before .before .before .before .class-of .ensures, c .before .before .before .before .mode5 .given .1, ne-eqb _ _ (c .before .before .match14 .rest .1), c .goes27 .ensures)) (λ w. simp (le-ltb _ _ (w .0 .left), le-ltb _ _ (w .1 .left), ← c .before .before .before .before .before .before .class-of .ensures, c .before .before .before .before .mode5 .given .1, ne-eqb _ _ (c .before .before .match14 .rest .1), c .goes27 .ensures)) (c .before .if5 .came))
-
-returns-41 : tie.Need-returns-41
-unfolding hears
-returns-41 c = simp (← c .before .before .before .before .class-of .ensures, c .before .before .enum-told9 .given .1, c .before .match15 .keys1, c .goes28 .ensures)
-
-returns-42 : tie.Need-returns-42
-unfolding hears
-returns-42 c = simp (← c .before .before .before .before .class-of .ensures, c .before .before .enum-told9 .given .1, ne-eqb _ _ (c .before .match15 .rest .1), c .goes29 .ensures)
-
-returns-43 : tie.Need-returns-43
-unfolding hears
-returns-43 c = simp (← c .before .before .before .class-of .ensures, c .before .enum-told10 .given .1, c .goes30 .ensures)
-
-returns-44 : tie.Need-returns-44
-unfolding hears
-returns-44 c = simp (← c .before .before .before .class-of .ensures, c .before .enum-told11 .given .1, c .goes31 .ensures)
-
-returns-45 : tie.Need-returns-45
-unfolding hears
-returns-45 c = simp (← c .before .before .before .class-of .ensures, c .before .enum-told12 .given .1, c .goes32 .ensures)
-
-returns-46 : tie.Need-returns-46
-unfolding hears
-returns-46 c = simp (← c .before .before .before .class-of .ensures, c .before .enum-told13 .given .1, c .goes33 .ensures)
-
-returns-47 : tie.Need-returns-47
-unfolding hears
-returns-47 c = simp (← c .before .before .before .class-of .ensures, c .before .enum-told14 .given .1, c .goes34 .ensures)
-
-returns-48 : tie.Need-returns-48
-unfolding hears
-returns-48 c = simp (← c .before .before .before .class-of .ensures, c .before .enum-told15 .given .1, c .goes35 .ensures)
-
-returns-49 : tie.Need-returns-49
-unfolding hears
-returns-49 c = simp (← c .before .before .before .class-of .ensures, c .before .enum-told16 .given .1, c .goes36 .ensures)
-
-returns-50 : tie.Need-returns-50
-unfolding hears
-returns-50 c = simp (← c .before .before .before .before .class-of .ensures, c .before .before .enum-told17 .given .1, c .before .match16 .keys1, c .goes37 .ensures)
-
-returns-51 : tie.Need-returns-51
-unfolding hears
-returns-51 c = simp (← c .before .before .before .before .class-of .ensures, c .before .before .enum-told17 .given .1, c .before .match16 .keys2, c .goes38 .ensures)
-
-returns-52 : tie.Need-returns-52
-unfolding hears
-returns-52 c = simp (← c .before .before .before .before .class-of .ensures, c .before .before .enum-told17 .given .1, c .before .match16 .keys3, c .goes39 .ensures)
-
-returns-53 : tie.Need-returns-53
-unfolding hears
-returns-53 c = simp (← c .before .before .before .before .class-of .ensures, c .before .before .enum-told17 .given .1, ne-eqb _ _ (c .before .match16 .rest .0 .0 .1), ne-eqb _ _ (c .before .match16 .rest .0 .1), ne-eqb _ _ (c .before .match16 .rest .1), c .goes40 .ensures)
+unfolding heardBy
+returns-2 c = simp (← c .before .before .before .before .before .before .before .before .place-of .ensures, ← c .before .before .before .before .before .before .before .class-of .ensures, ← c .before .before .before .before .before .before .cell-at .ensures, ne-eqb _ _ (c .before .before .before .before .before .if1 .left), c .before .before .before .before .place-in .ensures, c .before .before .before .enter .ensures, c .before .before .word-in .ensures, c .before .say .ensures, c .pends-in .ensures)
 
 pub receive-spec : {M : Type 1} → statement M
 receive-spec =
     tie.close
     (tie.spec
+    place-of-requires
     class-of-requires
-    enum-told
-    goes-requires
-    goes-requires-2
-    enum-told-2
-    goes-requires-3
-    goes-requires-4
-    tells-requires
-    tells-requires-2
-    enum-told-3
-    tells-requires-3
-    ack-of-requires
-    goes-requires-5
-    tells-requires-4
-    goes-requires-6
-    enum-known-mode
-    enum-known-seen
-    tells-requires-5
-    tells-requires-6
-    tells-requires-7
-    tells-requires-8
-    enum-told-4
-    tells-requires-9
-    tells-requires-10
-    enum-told-5
-    goes-requires-7
-    goes-requires-8
-    goes-requires-9
-    enum-told-6
-    goes-requires-10
-    goes-requires-11
-    goes-requires-12
-    enum-told-7
-    head-of-requires
-    goes-requires-13
-    goes-requires-14
-    enum-told-8
-    head-of-requires-2
-    goes-requires-15
-    goes-requires-16
-    goes-requires-17
-    enum-known-mode-2
-    datum-of-requires
-    goes-requires-18
-    goes-requires-19
-    goes-requires-20
-    enum-known-mode-3
-    datum-of-requires-2
-    goes-requires-21
-    goes-requires-22
-    goes-requires-23
-    goes-requires-24
-    enum-known-mode-4
-    told-requires
-    tells-requires-11
-    goes-requires-25
-    enum-known-mode-5
-    goes-requires-26
-    broad-requires
-    tells-requires-12
-    goes-requires-27
-    enum-told-9
-    goes-requires-28
-    goes-requires-29
-    enum-told-10
-    goes-requires-30
-    enum-told-11
-    goes-requires-31
-    enum-told-12
-    goes-requires-32
-    enum-told-13
-    goes-requires-33
-    enum-told-14
-    goes-requires-34
-    enum-told-15
-    goes-requires-35
-    enum-told-16
-    goes-requires-36
-    enum-told-17
-    goes-requires-37
-    goes-requires-38
-    goes-requires-39
-    goes-requires-40
+    cell-at-requires
+    cast-if1
     returns
-    returns-2
-    returns-3
-    returns-4
-    returns-5
-    returns-6
-    returns-7
-    returns-8
-    returns-9
-    returns-10
-    returns-11
-    returns-12
-    returns-13
-    returns-14
-    returns-15
-    returns-16
-    returns-17
-    returns-18
-    returns-19
-    returns-20
-    returns-21
-    returns-22
-    returns-23
-    returns-24
-    returns-25
-    returns-26
-    returns-27
-    returns-28
-    returns-29
-    returns-30
-    returns-31
-    returns-32
-    returns-33
-    returns-34
-    returns-35
-    returns-36
-    returns-37
-    returns-38
-    returns-39
-    returns-40
-    returns-41
-    returns-42
-    returns-43
-    returns-44
-    returns-45
-    returns-46
-    returns-47
-    returns-48
-    returns-49
-    returns-50
-    returns-51
-    returns-52
-    returns-53)
+    place-in-requires
+    enter-requires
+    word-in-requires
+    say-requires
+    pends-in-requires
+    returns-2)

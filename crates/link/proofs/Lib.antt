@@ -1,0 +1,2 @@
+pub mod Ruled
+pub mod Reading

@@ -1,0 +1,13 @@
+use mathlib.Core.Path.{refl}
+use Rattle.link.specs.Reading.{cells}
+use Rattle.link.proofs.table.table.Statement.{statement}
+use Rattle.link.proofs.table.table.Tie as tie
+use Rattle.link.proofs.table.table.Reads as reads
+use Rattle.link.proofs.table.table.Lts as lts
+
+returns : tie.Need-returns
+unfolding cells
+returns c = refl
+
+pub table-spec : {M : Type 1} → statement M
+table-spec = tie.close (tie.spec returns)

@@ -1,0 +1,88 @@
+-- The reception chart's table as numbers, and what a node does with a signal by such a table.
+use mathlib.Core.Bool.{Bool, cond}
+use mathlib.Core.List.{List, [], _∷_}
+use Prim.Native.Nat.{ℕ, zero, suc, _+_, _*_, _/_, _%_}
+use lib.Dec.{eqb, leb}
+use lib.ListN.{getD}
+use Rattle.charts.specs.declared.Seen.the-variants as Sn
+use Rattle.charts.specs.declared.Datum.the-variants as D
+use Rattle.charts.specs.declared.Mode.{Mode}
+use Rattle.charts.specs.declared.Mode.the-variants.{Rest, AckBody, AckEnd, Opened, Addressed, HeadOwn, HeadAll, BodyOwn, BodyAll, TailOwn, TailAll, Wait, Owed, Told, Listening}
+use Rattle.charts.specs.declared.Signal.{Signal}
+use Rattle.charts.specs.declared.Report.{Report}
+use Rattle.charts.specs.declared.Report.the-variants.{Silent, Acked, Miss, Good, Dcrc, Broad}
+use Rattle.charts.specs.declared.Heard.{Heard}
+use Rattle.charts.specs.declared.Entry.{Entry}
+use Rattle.charts.specs.Modes as P
+use Rattle.charts.specs.Modes.{placeOf}
+use Rattle.charts.specs.Places.{ackIn, headIn, datumIn}
+use Rattle.charts.specs.Words as W
+use Rattle.charts.specs.Signals.{classOf, headOf, datumOf, ackOf}
+use Rattle.charts.specs.Reception.{Reception, goes}
+use Rattle.charts.specs.Table.{entry}
+
+-- a cell as one number: the next mode's place, 32 times the number of the report's word, and 512 for a pending mark
+abbrev pub code : Entry → ℕ
+code e = e .place + 32 * e .word + cond (e .pends) 512 0
+
+-- and what such a number names
+abbrev pub placeIn : ℕ → ℕ
+placeIn x = x % 32
+
+abbrev pub wordIn : ℕ → ℕ
+wordIn x = x / 32 % 16
+
+abbrev pub pendsIn : ℕ → Bool
+pendsIn x = leb 512 x
+
+-- where the cell of a place and a class stands in the table: 14 cells for each mode
+abbrev pub indexOf : ℕ → ℕ → ℕ
+indexOf p c = 14 * p + c
+
+-- k cells of the table from index i on; all 336
+abbrev pub cellsFrom : ℕ → ℕ → List ℕ
+cellsFrom zero i = []
+cellsFrom (suc k) i = code (entry (i / 14) (i % 14)) ∷ cellsFrom k (suc i)
+
+unfoldable pub cells : List ℕ
+cells = cellsFrom 336 0
+
+-- the mode at place p that a node in mode m comes to by the signal s, with what it remembers from then on: of a good Ack its a, of a good Header its h,
+-- and of Data the header that m had and the datum if it was good. No signal leads to the places that are not named here.
+abbrev pub enters : ℕ → Mode → Signal → Mode
+enters p m s =
+    cond (eqb p P.rest) Rest
+    (cond (eqb p P.ackBody) AckBody
+    (cond (eqb p P.ackGood) (AckEnd (Sn.Ack (ackOf s)))
+    (cond (eqb p P.ackNone) (AckEnd Sn.Nothing)
+    (cond (eqb p P.opened) Opened
+    (cond (eqb p P.addressed) Addressed
+    (cond (eqb p P.headOwn) HeadOwn
+    (cond (eqb p P.headAll) HeadAll
+    (cond (eqb p P.bodyOwn) (BodyOwn (headOf s))
+    (cond (eqb p P.bodyAll) (BodyAll (headOf s))
+    (cond (eqb p P.tailOwnGood) (TailOwn (headIn m) (D.Good (datumOf s)))
+    (cond (eqb p P.tailOwnBad) (TailOwn (headIn m) D.Bad)
+    (cond (eqb p P.tailAllGood) (TailAll (headIn m) (D.Good (datumOf s)))
+    (cond (eqb p P.tailAllBad) (TailAll (headIn m) D.Bad)
+    (cond (eqb p P.wait) Wait
+    (cond (eqb p P.owed) Owed
+    (cond (eqb p P.told) Told
+    (cond (eqb p P.listening) Listening m)))))))))))))))))
+
+-- the report with that first word of node `me` in mode m
+abbrev pub says : ℕ → ℕ → Mode → Report
+says w me m =
+    cond (eqb w W.acked) (Acked me (ackIn m))
+    (cond (eqb w W.miss) (Miss me)
+    (cond (eqb w W.good) (Good me (headIn m) (datumIn m))
+    (cond (eqb w W.dcrc) (Dcrc me (headIn m))
+    (cond (eqb w W.broad) (Broad me (headIn m) (datumIn m)) Silent))))
+
+-- what the cell x makes of node `me` in mode m by the signal s: a cell that names its own place and nothing else leaves it as it is
+abbrev pub reads : ℕ → Reception
+reads x me m s = cond (eqb x (placeOf m)) (goes m) (record { mode = enters (placeIn x) m s; report = says (wordIn x) me m; pends = pendsIn x })
+
+-- what each node does with a signal by the table t, whatever numbers it holds
+unfoldable pub heardBy : List ℕ → Reception
+heardBy t me m s = reads (getD t (indexOf (placeOf m) (classOf me s)) 0) me m s
