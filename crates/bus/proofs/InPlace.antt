@@ -16,9 +16,13 @@ use Rattle.charts.specs.declared.Marking.{Marking}
 use Rattle.charts.specs.declared.Marking.the-variants as M
 use Rattle.charts.specs.declared.Decoded.{Decoded}
 use Rattle.charts.specs.declared.Decoded.the-variants.{Refused, Accepted}
+use Rattle.charts.specs.Reception.{hears}
 use Rattle.charts.specs.State.{concatenatedAfter}
+use Rattle.charts.specs.Actions.{nextOf}
 use Rattle.charts.specs.Step.{stepWith}
 use Rattle.charts.specs.View.{view, cellOf, mark, freshNode, Sized}
+use Rattle.link.specs.Reading.{cells, heardBy}
+use Rattle.link.proofs.Reading.{table-hears}
 use Rattle.bus.specs.declared.plans.Plan.{Plan}
 use Rattle.bus.specs.Advance.{glance, advanceOf}
 use Rattle.bus.specs.Marks.{unmarked, clearsMisled, clearsWon}
@@ -27,16 +31,20 @@ use Rattle.bus.proofs.ReadLaws.{clearing-fits}
 use Rattle.bus.proofs.ViewLaws.{view-n, view-phase, stored, resultOf, carried}
 
 -- what passes 12 is planned
-tried-ready : (n : ℕ) (p : Phase) (b : Bool) (i : ℕ) (c : Cell) (ws ps hs : ℕ → Bool) (d : Decoded) → Ready n p ps d → i < 63 → tried n p b i c ws ps hs d ≡ planned n p b i c ws ps hs d
+tried-ready : (n : ℕ) (p : Phase) (b : Bool) (i : ℕ) (c : Cell) (ws ps hs : ℕ → Bool) (d : Decoded) → Ready n p ps d → i < 63 → tried hears n p b i c ws ps hs d ≡ planned n p b i c ws ps hs d
 tried-ready n p b i c ws ps hs (Refused k) r h = refl
-tried-ready n p b i c ws ps hs (Accepted m) r h = rw (lt-ltb n 64 (let s = r .size in omega arith), r .stage, lt-ltb i 63 h)
+tried-ready n p b i c ws ps hs (Accepted m) r h = rw (lt-ltb n 64 (let s = r .size in omega arith), lt-ltb (nextOf p) 63 (r .next), lt-ltb i 63 h)
 
 module _ (b : Bus) (d : Decoded) (i : ℕ) (c : Cell) (p : Plan) (size : Sized b) (ready : Ready (b .n) (b .phase) (mark (b .pending)) d) (l : i < 63)
     (is-aim : i ≡ aimed (b .n) (b .phase) (mark (b .pending)) d)
     (is-cell : c ≡ cellOf (getD (b .nodes) i freshNode) (mark (b .won) i) (mark (b .pending) i) (mark (b .holder) i) (mark (b .misled) i))
-    (is-plan : p ≡ tried (b .n) (b .phase) (b .concatenated) i c (mark (b .won)) (mark (b .pending)) (mark (b .holder)) d) where
+    (t : List ℕ) (is-table : t ≡ cells)
+    (is-plan : p ≡ tried (heardBy t) (b .n) (b .phase) (b .concatenated) i c (mark (b .won)) (mark (b .pending)) (mark (b .holder)) d) where
   plan-is : p ≡ planned (b .n) (b .phase) (b .concatenated) i c (mark (b .won)) (mark (b .pending)) (mark (b .holder)) d
-  plan-is = is-plan ∙ tried-ready (b .n) (b .phase) (b .concatenated) i c (mark (b .won)) (mark (b .pending)) (mark (b .holder)) d ready l
+  plan-is =
+      is-plan
+      ∙ ap (λ h. tried h (b .n) (b .phase) (b .concatenated) i c (mark (b .won)) (mark (b .pending)) (mark (b .holder)) d) (ap heardBy is-table ∙ table-hears)
+      ∙ tried-ready (b .n) (b .phase) (b .concatenated) i c (mark (b .won)) (mark (b .pending)) (mark (b .holder)) d ready l
 
   -- a plan that clears marks is one for at most 63 nodes
   clears-fit : (f : Marking → Bool) → f M.Nothing ≡ false → (o : Bool) → o ≡ f (p .marking) → (o && ltb (b .n) 64) ≡ f (p .marking)

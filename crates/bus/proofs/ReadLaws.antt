@@ -15,7 +15,7 @@ use Rattle.charts.specs.declared.Marking.the-variants as M
 use Rattle.charts.specs.declared.Decoded.{Decoded}
 use Rattle.charts.specs.declared.Decoded.the-variants.{Refused, Accepted}
 use Rattle.charts.specs.declared.Bus.{Bus}
-use Rattle.charts.specs.Actions.{target}
+use Rattle.charts.specs.Actions.{nextOf, target}
 use Rattle.charts.specs.Records.{read}
 use Rattle.charts.specs.Step.{look}
 use Rattle.charts.specs.State.{every}
@@ -29,14 +29,14 @@ use Rattle.charts.proofs.Steps.{Known, Decodes, taken, decodes}
 use Rattle.bus.proofs.PhaseLaws.{next-below}
 
 -- the node that an action is about has a place in the arrays
-target-below : (n : ℕ) (p : Phase) (ps : ℕ → Bool) (m : Move) → n ≤ 63 → phaseFits n p ≡ true → Known n m → target n p ps m < 63
+target-below : (n : ℕ) (p : Phase) (ps : ℕ → Bool) (m : Move) → n ≤ 63 → nextOf p < 63 → Known n m → target n p ps m < 63
 target-below n p ps (Request i q) h e k = omega (arith, k .0)
 target-below n p ps (Arbitrate i) h e k = omega arith
 target-below n p ps (Respond i a hold) h e k = omega (arith, k .0)
 target-below n p ps (Clock i) h e k = omega arith
-target-below n p ps (Carry w) h e k = next-below n p h e
+target-below n p ps (Carry w) h e k = e
 target-below n p ps Grant h e k = lowest-below ps n 0 63 h (omega arith)
-target-below n p ps GapNext h e k = next-below n p h e
+target-below n p ps GapNext h e k = e
 target-below n p ps Reset h e k = omega arith
 
 pub size-below : (n : ℕ) (p : Phase) → (isSize n && phaseFits n p) ≡ true → n ≤ 63
@@ -47,8 +47,8 @@ module _ (n : ℕ) (p : Phase) (ps : ℕ → Bool) (a : Action) where
   ready-read (Refused k) e q = tt
   ready-read (Accepted m) e (taken k) =
       let h = size-below n p e in
-      let g = and-true (isSize n) _ e .1 in
-      record { size = h; stage = g; node = target-below n p ps m h g k }
+      let g = next-below n p h (and-true (isSize n) _ e .1) in
+      record { size = h; next = g; node = target-below n p ps m h g k }
 
   ready-if : (b : Bool) (k : ℕ) → (b ≡ true → (isSize n && phaseFits n p) ≡ true) → Ready n p ps (cond b (read n a) (Refused k))
   ready-if true k f = ready-read (read n a) (f refl) (decodes n a)

@@ -1,3 +1,4 @@
 pub mod Marks
+pub mod Gets
 pub mod Plans
 pub mod Advance

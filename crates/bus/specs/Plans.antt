@@ -12,8 +12,8 @@ use Rattle.charts.specs.declared.Marking.the-variants as M
 use Rattle.charts.specs.declared.Decoded.{Decoded}
 use Rattle.charts.specs.declared.Decoded.the-variants.{Refused, Accepted}
 use Rattle.charts.specs.Numbers as N
-use Rattle.charts.specs.Actions.{Outcome, closed, does, target, outcome}
-use Rattle.charts.specs.Valid.{phaseFits}
+use Rattle.charts.specs.Reception.{Reception, hears}
+use Rattle.charts.specs.Actions.{Outcome, closed, does, nextOf, target, outcome}
 use Rattle.bus.specs.declared.plans.Plan.{Plan}
 
 -- "A refused step returns the number, the state handed in and no report"
@@ -36,20 +36,21 @@ aimed n p ps (Accepted m) = target n p ps m
 -- the plan of a record about node i, whose cell is c; b is the bus's own mark
 abbrev pub planned : ℕ → Phase → Bool → ℕ → Cell → (ℕ → Bool) → (ℕ → Bool) → (ℕ → Bool) → Decoded → Plan
 planned n p b i c ws ps hs (Refused k) = refusing k p c
-planned n p b i c ws ps hs (Accepted m) = settled p c (outcome n p b i c ws ps hs m)
+planned n p b i c ws ps hs (Accepted m) = settled p c (outcome hears n p b i c ws ps hs m)
 
--- the clauses of 12 that make a plan for node i safe; the plan that asks for them, of any record about any node
+-- what 12 says that makes a plan for node i safe: at most 63 nodes, and i and the node that gets the next signal or Gap below 63. The plan that asks for it, of any record
+-- about any node, where what nodes do with signals is h
 abbrev pub isReady : ℕ → Phase → ℕ → Bool
-isReady n p i = ltb n 64 && (phaseFits n p && ltb i 63)
+isReady n p i = ltb n 64 && (ltb (nextOf p) 63 && ltb i 63)
 
-abbrev pub tried : ℕ → Phase → Bool → ℕ → Cell → (ℕ → Bool) → (ℕ → Bool) → (ℕ → Bool) → Decoded → Plan
-tried n p b i c ws ps hs (Refused k) = refusing k p c
-tried n p b i c ws ps hs (Accepted m) = cond (isReady n p i) (settled p c (outcome n p b i c ws ps hs m)) (refusing N.not-valid p c)
+abbrev pub tried : Reception → ℕ → Phase → Bool → ℕ → Cell → (ℕ → Bool) → (ℕ → Bool) → (ℕ → Bool) → Decoded → Plan
+tried h n p b i c ws ps hs (Refused k) = refusing k p c
+tried h n p b i c ws ps hs (Accepted m) = cond (isReady n p i) (settled p c (outcome h n p b i c ws ps hs m)) (refusing N.not-valid p c)
 
 -- what indexing by an accepted record needs
 pub record Fits (n : ℕ) (p : Phase) (i : ℕ) : Type 0 where
   pub size : n ≤ 63
-  pub stage : phaseFits n p ≡ true
+  pub next : nextOf p < 63
   pub node : i < 63
 
 abbrev pub Ready : ℕ → Phase → (ℕ → Bool) → Decoded → Type 0

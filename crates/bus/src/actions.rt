@@ -1,7 +1,7 @@
 // The actions of document 01, kinds 1 to 10: each makes a plan from the few values that it looks at, the phase, one cell and the marks of all nodes.
 // The bus's record is not handed in.
 ghost use mathlib.Core.Path.{_≡_};
-ghost use mathlib.Core.Bool.{true, _&&_};
+ghost use mathlib.Core.Bool.{_&&_};
 ghost use Prim.Native.Nat.{_<_, _≤_};
 ghost use Rattle.charts.specs.declared.Report.the-variants as R;
 ghost use Rattle.charts.specs.declared.Phase.the-variants as P;
@@ -10,12 +10,12 @@ ghost use Rattle.charts.specs.declared.Output.the-variants as O;
 ghost use Rattle.charts.specs.declared.Marking.the-variants as M;
 ghost use Rattle.charts.specs.Modes.{isRest};
 ghost use Rattle.charts.specs.State.{isEmpty, upd};
-ghost use Rattle.charts.specs.Arrivals.{arrives};
-ghost use Rattle.charts.specs.Actions.{request, arbitrate, arbitrateWith, respond, clock, clockWith, carry, deliverWith, grant, gap, reset};
-ghost use Rattle.charts.specs.Actions.{starts, wins, firstOther, nextOther, freed, afterFree, putsOut, markingBy, onward, hearing};
+ghost use Rattle.charts.specs.Actions.{request, arbitrate, arbitrateWith, respond, clock, clockWith, grant, reset};
+ghost use Rattle.charts.specs.Actions.{starts, wins, firstOther, nextOther, freed, afterFree, putsOut, markingBy, onward, hearing, nextOf};
 ghost use Rattle.charts.specs.Actions.{takesGrant, afterGrant};
-ghost use Rattle.charts.specs.Valid.{phaseFits};
 ghost use Rattle.charts.specs.View.{mark};
+ghost use Rattle.link.specs.Reading.{heardBy};
+ghost use Rattle.bus.specs.Gets.{carried, gapped, incoming, nextGap, phaseAfter, markingIn, got, gets};
 ghost use Rattle.bus.specs.Plans.{doing, settled};
 use crate::bools;
 use crate::cells;
@@ -29,6 +29,7 @@ use charts::Cell;
 use charts::Heard;
 use charts::Marking;
 use charts::Mode;
+use charts::Move;
 use charts::Output;
 use charts::Packet;
 use charts::Phase;
@@ -295,60 +296,134 @@ fn hearing(c: Cell, heard: Heard, misleads: bool) -> Cell
     )
 }
 
-// Node j's cell is c once node i's signal has been carried there.
-fn delivers(n: u8, i: u8, s: Signal, j: u8, pending: &[bool; 63], report: Report, c: Cell) -> Plan
-    requires { ⌜ n ≤ 63 ⌝ }
+// "after node n−1 the bus is Idle"
+fn next_gap(n: u8, j: u8) -> Phase
     requires { ⌜ j < 63 ⌝ }
-    ensures { λ r. ⌜ r ≡ doing report (onward n i s j (upd (mark (now (pending .entry))) j (c .pending))) c M.Nothing ⌝ }
+    ensures { λ r. ⌜ r ≡ nextGap n j ⌝ }
 {
-    let phase = onward(n, i, s, j, pending, c.pending);
-    plans::does(report, phase, c, Marking::Nothing)
-}
-
-// Node i's signal is carried to its next receiver j.
-fn deliver(
-    n: u8,
-    phase: Phase,
-    i: u8,
-    s: Signal,
-    j: u8,
-    c: Cell,
-    pending: &[bool; 63],
-    way: Way,
-) -> Plan
-    requires { ⌜ n ≤ 63 ⌝ }
-    requires { ⌜ j < 63 ⌝ }
-    ensures { λ r. ⌜ r ≡ settled phase c (deliverWith n i s j c (mark (now (pending .entry))) (arrives way (c .misled) s)) ⌝ }
-{
-    let arrival = link::arrive(way, c.misled, s);
-    match arrival {
-        Arrival::Closed => plans::closed(phase, c),
-        Arrival::Lost => delivers(n, i, s, j, pending, Report::Silent, c),
-        Arrival::Hears(t, misleads) => {
-            let mode = c.mode;
-            let heard = link::receive(j, mode, t);
-            let report = heard.report;
-            delivers(n, i, s, j, pending, report, hearing(c, heard, misleads))
-        }
+    if j + 1 < n {
+        Phase::Gapping(j + 1)
+    } else {
+        Phase::Idle
     }
 }
 
-// 5. pass, 6. lose, 7. change
-pub(crate) fn carry(n: u8, phase: Phase, c: Cell, pending: &[bool; 63], way: Way) -> Plan
+// The phase once the next node has got its signal or its Gap; `own` is then the pending mark of that node.
+fn phase_after(n: u8, phase: Phase, pending: &[bool; 63], own: bool) -> Phase
     requires { ⌜ n ≤ 63 ⌝ }
-    requires { ⌜ phaseFits n phase ≡ true ⌝ }
-    ensures { λ r. ⌜ r ≡ settled phase c (carry n phase c (mark (now (pending .entry))) way) ⌝ }
+    requires { ⌜ nextOf phase < 63 ⌝ }
+    ensures { λ r. ⌜ r ≡ phaseAfter n phase (upd (mark (now (pending .entry))) (nextOf phase) own) ⌝ }
 {
     match phase {
-        Phase::Idle => plans::closed(phase, c),
-        Phase::Busy => plans::closed(phase, c),
+        Phase::Idle => phase,
+        Phase::Busy => phase,
         Phase::Delivering {
             sender,
             signal,
             next,
-        } => deliver(n, phase, sender, signal, next, c, pending, way),
-        Phase::Granting => plans::closed(phase, c),
-        Phase::Gapping(_) => plans::closed(phase, c),
+        } => onward(n, sender, signal, next, pending, own),
+        Phase::Granting => phase,
+        Phase::Gapping(j) => next_gap(n, j),
+    }
+}
+
+// The bus's own mark is "cleared when the bus becomes Idle".
+fn marking_in(phase: Phase) -> Marking
+    ensures { λ r. ⌜ r ≡ markingIn phase ⌝ }
+{
+    if phases::is_idle(phase) {
+        return Marking::Concatenated(false);
+    }
+    Marking::Nothing
+}
+
+// The next node's report and its cell, once it has got what came to it.
+fn got(n: u8, phase: Phase, pending: &[bool; 63], report: Report, c: Cell) -> Plan
+    requires { ⌜ n ≤ 63 ⌝ }
+    requires { ⌜ nextOf phase < 63 ⌝ }
+    ensures { λ r. ⌜ r ≡ settled phase c (got n phase (mark (now (pending .entry))) report c) ⌝ }
+{
+    let then = phase_after(n, phase, pending, c.pending);
+    plans::does(report, then, c, marking_in(then))
+}
+
+// What comes to the next node by 5. pass, 6. lose or 7. change, of the signal that is on its way.
+fn carried(phase: Phase, misled: bool, way: Way) -> Arrival
+    ensures { λ r. ⌜ r ≡ carried phase misled way ⌝ }
+{
+    match phase {
+        Phase::Idle => Arrival::Closed,
+        Phase::Busy => Arrival::Closed,
+        Phase::Delivering {
+            sender: _,
+            signal,
+            next: _,
+        } => link::arrive(way, misled, signal),
+        Phase::Granting => Arrival::Closed,
+        Phase::Gapping(_) => Arrival::Closed,
+    }
+}
+
+// What comes to it by 9. gap.
+fn gapped(phase: Phase) -> Arrival
+    ensures { λ r. ⌜ r ≡ gapped phase ⌝ }
+{
+    match phase {
+        Phase::Idle => Arrival::Closed,
+        Phase::Busy => Arrival::Closed,
+        Phase::Delivering {
+            sender: _,
+            signal: _,
+            next: _,
+        } => Arrival::Closed,
+        Phase::Granting => Arrival::Closed,
+        Phase::Gapping(_) => Arrival::Hears(Signal::Gap, false),
+    }
+}
+
+fn incoming(phase: Phase, misled: bool, m: Move) -> Arrival
+    ensures { λ r. ⌜ r ≡ incoming phase misled m ⌝ }
+{
+    match m {
+        Move::Request { node: _, packet: _ } => Arrival::Closed,
+        Move::Arbitrate(_) => Arrival::Closed,
+        Move::Respond {
+            node: _,
+            ack: _,
+            hold: _,
+        } => Arrival::Closed,
+        Move::Clock(_) => Arrival::Closed,
+        Move::Carry(way) => carried(phase, misled, way),
+        Move::Grant => Arrival::Closed,
+        Move::GapNext => gapped(phase),
+        Move::Reset => Arrival::Closed,
+    }
+}
+
+// 5. pass, 6. lose, 7. change and 9. gap: the next node gets what comes to it, and does with it what the table says.
+// (`link::receive` is called from here alone, and so compiled into the step: a second call would copy each mode through memory.)
+pub(crate) fn hear(
+    table: &[u16; 336],
+    n: u8,
+    phase: Phase,
+    c: Cell,
+    pending: &[bool; 63],
+    m: Move,
+) -> Plan
+    requires { ⌜ n ≤ 63 ⌝ }
+    requires { ⌜ nextOf phase < 63 ⌝ }
+    ensures { λ r. ⌜ r ≡ settled phase c (gets (heardBy (now (table .entry))) n phase c (mark (now (pending .entry))) (incoming phase (c .misled) m)) ⌝ }
+{
+    let arrival = incoming(phase, c.misled, m);
+    match arrival {
+        Arrival::Closed => plans::closed(phase, c),
+        Arrival::Lost => got(n, phase, pending, Report::Silent, c),
+        Arrival::Hears(s, misleads) => {
+            let mode = c.mode;
+            let heard = link::receive(table, phases::next_of(phase), mode, s);
+            let report = heard.report;
+            got(n, phase, pending, report, hearing(c, heard, misleads))
+        }
     }
 }
 
@@ -389,41 +464,6 @@ pub(crate) fn grant(n: u8, phase: Phase, i: u8, c: Cell, pending: &[bool; 63]) -
         return plans::quietly(Phase::Busy, c);
     }
     plans::quietly(after_grant(n, i, pending), take_grant(c))
-}
-
-// Node j gets Gap; "after node n−1 the bus is Idle", and its own mark is "cleared when the bus becomes Idle".
-fn gap_at(n: u8, j: u8, c: Cell) -> Plan
-    requires { ⌜ j < 63 ⌝ }
-    ensures { λ r. ⌜ r ≡ settled (P.Gapping j) c (gap n (P.Gapping j) c) ⌝ }
-{
-    let mode = c.mode;
-    let heard = link::receive_gap(j, mode);
-    let next = heard.mode;
-    let report = heard.report;
-    let then = cells::set_mode(next, c);
-    if j + 1 < n {
-        return plans::does(report, Phase::Gapping(j + 1), then, Marking::Nothing);
-    }
-    plans::does(report, Phase::Idle, then, Marking::Concatenated(false))
-}
-
-// 9. gap
-pub(crate) fn gap(n: u8, phase: Phase, c: Cell) -> Plan
-    requires { ⌜ n ≤ 63 ⌝ }
-    requires { ⌜ phaseFits n phase ≡ true ⌝ }
-    ensures { λ r. ⌜ r ≡ settled phase c (gap n phase c) ⌝ }
-{
-    match phase {
-        Phase::Idle => plans::closed(phase, c),
-        Phase::Busy => plans::closed(phase, c),
-        Phase::Delivering {
-            sender: _,
-            signal: _,
-            next: _,
-        } => plans::closed(phase, c),
-        Phase::Granting => plans::closed(phase, c),
-        Phase::Gapping(j) => gap_at(n, j, c),
-    }
 }
 
 // 10. reset

@@ -1,10 +1,9 @@
 // The plan of any record that was looked at, and the node that it is about.
 ghost use mathlib.Core.Path.{_≡_};
-ghost use mathlib.Core.Bool.{true};
 ghost use Prim.Native.Nat.{_<_, _≤_};
-ghost use Rattle.charts.specs.Actions.{target, outcome};
-ghost use Rattle.charts.specs.Valid.{phaseFits};
+ghost use Rattle.charts.specs.Actions.{nextOf, target, outcome};
 ghost use Rattle.charts.specs.View.{mark};
+ghost use Rattle.link.specs.Reading.{heardBy};
 ghost use Rattle.bus.specs.Plans.{settled, aimed, tried, Ready};
 use crate::actions;
 use crate::marks;
@@ -40,8 +39,9 @@ fn target(n: u8, phase: Phase, pending: &[bool; 63], m: Move) -> u8
     }
 }
 
-// The plan of an action about node i, whose cell is c.
+// The plan of an action about node i, whose cell is c; the table says what a node does with a signal.
 fn play(
+    table: &[u16; 336],
     n: u8,
     phase: Phase,
     concatenated: bool,
@@ -53,18 +53,17 @@ fn play(
     m: Move,
 ) -> Plan
     requires { ⌜ n ≤ 63 ⌝ }
-    requires { ⌜ phaseFits n phase ≡ true ⌝ }
+    requires { ⌜ nextOf phase < 63 ⌝ }
     requires { ⌜ i < 63 ⌝ }
-    ensures { λ r. ⌜ r ≡ settled phase c (outcome n phase concatenated i c (mark (now (won .entry))) (mark (now (pending .entry))) (mark (now (holder .entry))) m) ⌝ }
+    ensures { λ r. ⌜ r ≡ settled phase c (outcome (heardBy (now (table .entry))) n phase concatenated i c (mark (now (won .entry))) (mark (now (pending .entry))) (mark (now (holder .entry))) m) ⌝ }
 {
     match m {
         Move::Request { node: _, packet } => actions::request(phase, c, packet),
         Move::Arbitrate(_) => actions::arbitrate(phase, i, c),
         Move::Respond { node: _, ack, hold } => actions::respond(phase, concatenated, c, ack, hold),
         Move::Clock(_) => actions::clock(n, phase, i, c, holder),
-        Move::Carry(way) => actions::carry(n, phase, c, pending, way),
+        Move::Carry(_) | Move::GapNext => actions::hear(table, n, phase, c, pending, m),
         Move::Grant => actions::grant(n, phase, i, c, pending),
-        Move::GapNext => actions::gap(n, phase, c),
         Move::Reset => actions::reset(n, phase, c, won),
     }
 }
@@ -83,6 +82,7 @@ pub(crate) fn aim(n: u8, phase: Phase, pending: &[bool; 63], d: Decoded) -> u8
 
 // The plan of a record about node i, whose cell is c: an accepted one is carried out on what passes 12.
 pub(crate) fn decide(
+    table: &[u16; 336],
     n: u8,
     phase: Phase,
     concatenated: bool,
@@ -93,7 +93,7 @@ pub(crate) fn decide(
     holder: &[bool; 63],
     d: Decoded,
 ) -> Plan
-    ensures { λ r. ⌜ r ≡ tried n phase concatenated i c (mark (now (won .entry))) (mark (now (pending .entry))) (mark (now (holder .entry))) d ⌝ }
+    ensures { λ r. ⌜ r ≡ tried (heardBy (now (table .entry))) n phase concatenated i c (mark (now (won .entry))) (mark (now (pending .entry))) (mark (now (holder .entry))) d ⌝ }
 {
     let Decoded::Accepted(m) = d else {
         return plans::refuse(record::number(d), phase, c);
@@ -101,5 +101,5 @@ pub(crate) fn decide(
     if !validity::is_ready(n, phase, i) {
         return plans::refuse(NOT_VALID, phase, c);
     }
-    play(n, phase, concatenated, i, c, won, pending, holder, m)
+    play(table, n, phase, concatenated, i, c, won, pending, holder, m)
 }

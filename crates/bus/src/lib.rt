@@ -9,6 +9,7 @@ ghost use Prim.Native.Nat.{_<_};
 ghost use lib.Dec.{ltb};
 ghost use lib.ListN.{length};
 ghost use Rattle.bus.specs.Marks.{unmarked};
+ghost use Rattle.link.specs.Reading.{heardBy};
 ghost use Rattle.bus.specs.Plans.{Ready, aimed, tried};
 use crate::plans::Plan;
 use charts::Action;
@@ -100,7 +101,19 @@ fn carry_out(b: Bus, d: Decoded) -> Played
     let at = i as usize;
     let node = nodes[at];
     let c = cells::cell_of(node, won[at], pending[at], holder[at], misled[at]);
-    let plan = decide::decide(n, phase, concatenated, i, c, &won, &pending, &holder, d);
+    let table = link::table::table();
+    let plan = decide::decide(
+        &table,
+        n,
+        phase,
+        concatenated,
+        i,
+        c,
+        &won,
+        &pending,
+        &holder,
+        d,
+    );
     let next = plan.cell;
     nodes[at] = cells::node_of(next);
     won[at] = next.won;
@@ -185,8 +198,10 @@ pub fn aim(n: u8, phase: Phase, pending: &[bool; 63], a: Action) -> Aimed
     }
 }
 
-// What `advance` makes of that node, whose cell is c. (proofs/InPlace.antt: carrying the plan out on the arrays is `advance`.)
+// What `advance` makes of that node, whose cell is c, by a table of the reception chart. (proofs/InPlace.antt: carrying the plan out on the arrays, with the chart's own
+// table, is `advance`.) A player takes the table once, and lends it with each action.
 pub fn plan(
+    table: &[u16; 336],
     n: u8,
     phase: Phase,
     concatenated: bool,
@@ -197,9 +212,9 @@ pub fn plan(
     holder: &[bool; 63],
     d: Decoded,
 ) -> Plan
-    ensures { λ r. ⌜ r ≡ tried n phase concatenated i c (mark (now (won .entry))) (mark (now (pending .entry))) (mark (now (holder .entry))) d ⌝ }
+    ensures { λ r. ⌜ r ≡ tried (heardBy (now (table .entry))) n phase concatenated i c (mark (now (won .entry))) (mark (now (pending .entry))) (mark (now (holder .entry))) d ⌝ }
 {
-    decide::decide(n, phase, concatenated, i, c, won, pending, holder, d)
+    decide::decide(table, n, phase, concatenated, i, c, won, pending, holder, d)
 }
 
 // Clears the marks of all nodes if it is asked; a bus has at most 63 of them.

@@ -8,6 +8,7 @@ ghost use Rattle.charts.specs.Valid.{isSize, isAck, seenFits, modeFits, bufferF
 ghost use Rattle.charts.specs.View.{view, cellOf};
 ghost use Rattle.bus.specs.Plans.{isReady};
 use crate::bools;
+use crate::phases;
 use charts::Buffer;
 use charts::Bus;
 use charts::Mode;
@@ -140,7 +141,7 @@ pub(crate) fn is_safe(n: u8, phase: Phase) -> bool
 pub(crate) fn is_ready(n: u8, phase: Phase, i: u8) -> bool
     ensures { λ r. ⌜ r ≡ isReady n phase i ⌝ }
 {
-    bools::both(n < 64, bools::both(phase_fits(n, phase), i < 63))
+    bools::both(n < 64, bools::both(phases::next_of(phase) < 63, i < 63))
 }
 
 fn nodes_fit(b: Bus) -> bool

@@ -1,6 +1,5 @@
 -- The table that the constant holds is the chart: one test, computed over its 336 cells, gives the rule at each, and what a node reads there with what modes remember is what the chart says.
 use mathlib.Core.Path.{_≡_, refl, sym, ap, _∙_}
-use mathlib.Core.Bool.{cond}
 use Prim.Native.Nat.{ℕ, _<_}
 use lib.Dec.{T, eqb}
 use lib.ListN.{getD}

@@ -8,6 +8,7 @@ use Rattle.bus.proofs.carry_out.Lts as lts
 use Rattle.bus.proofs.carry_out.Reads as reads
 use Rattle.bus.proofs.decide.aim.Reads as aim-reads
 use Rattle.bus.proofs.cells.cell_of.Reads as cell-of-reads
+use Rattle.link.proofs.table.table.Reads as table-reads
 use Rattle.bus.proofs.decide.decide.Reads as decide-reads
 use Rattle.bus.proofs.cells.node_of.Reads as node-of-reads
 use Rattle.bus.proofs.plans.clears_misled.Reads as clears-misled-reads
@@ -16,7 +17,7 @@ use Rattle.bus.proofs.plans.clears_won.Reads as clears-won-reads
 use Rattle.bus.proofs.plans.concatenated_after.Reads as concatenated-after-reads
 
 -- what owning the record tells of its arrays; stated apart, where little else is known, since the search looks through all of it
-sized : (c : lts.Start (aim-reads.Asked, aim-reads.Learnt, cell-of-reads.Asked, cell-of-reads.Learnt, decide-reads.Asked, decide-reads.Learnt, node-of-reads.Asked, node-of-reads.Learnt, clears-misled-reads.Asked, clears-misled-reads.Learnt, clear-reads.Asked, clear-reads.Learnt, clears-won-reads.Asked, clears-won-reads.Learnt, concatenated-after-reads.Asked, concatenated-after-reads.Learnt) reads.Pre reads.Post) → Sized (c .args .b)
+sized : (c : lts.Start (aim-reads.Asked, aim-reads.Learnt, cell-of-reads.Asked, cell-of-reads.Learnt, table-reads.Asked, table-reads.Learnt, decide-reads.Asked, decide-reads.Learnt, node-of-reads.Asked, node-of-reads.Learnt, clears-misled-reads.Asked, clears-misled-reads.Learnt, clear-reads.Asked, clear-reads.Learnt, clears-won-reads.Asked, clears-won-reads.Learnt, concatenated-after-reads.Asked, concatenated-after-reads.Learnt) reads.Pre reads.Post) → Sized (c .args .b)
 sized c = record { nodes-size = search (needs, length-mapped); won-size = search needs; pending-size = search needs; holder-size = search (needs, c .good .0 .1 .1 .1 .1); misled-size = search (needs, c .good .0 .1 .1 .1 .1) }
 
 aim-requires : tie.Need-aim-requires
@@ -45,6 +46,9 @@ array-read-cell-of-4 c = search needs
 
 cell-of-requires : tie.Need-cell-of-requires
 cell-of-requires c κs = search needs
+
+table-requires : tie.Need-table-requires
+table-requires c κs = search needs
 
 decide-requires : tie.Need-decide-requires
 decide-requires c κs = search needs
@@ -87,15 +91,16 @@ concatenated-after-requires c κs = search needs
 
 returns : tie.Need-returns
 returns c =
-    let start = c .before .before .before .before .before .before .before .before .before .before .before .before .before .before .before .before .before .before .before .before .before .before in
-    let aim = c .before .before .before .before .before .before .before .before .before .before .before .before .before .before .before .aim in
-    let cell = c .before .before .before .before .before .before .before .before .before .before .before .before .before .cell-of in
+    let start = c .before .before .before .before .before .before .before .before .before .before .before .before .before .before .before .before .before .before .before .before .before .before .before .before in
+    let aim = c .before .before .before .before .before .before .before .before .before .before .before .before .before .before .before .before .before .aim in
+    let cell = c .before .before .before .before .before .before .before .before .before .before .before .before .before .before .before .cell-of in
+    let table = c .before .before .before .before .before .before .before .before .before .before .before .before .before .before .table in
     let plan = c .before .before .before .before .before .before .before .before .before .decide in
     let node = c .before .before .before .before .before .before .before .node-of in
     let asks-misled = c .before .before .before .before .before .clears-misled in
     let asks-won = c .before .before .clears-won in
     let own = c .concatenated-after in
-    carries (start .args .b) (start .args .d) (aim .result) (cell .result) (plan .result) (sized start) (start .pre) (aim .ensures .1) (aim .ensures .0) (cell .ensures) (plan .ensures)
+    carries (start .args .b) (start .args .d) (aim .result) (cell .result) (plan .result) (sized start) (start .pre) (aim .ensures .1) (aim .ensures .0) (cell .ensures) (table .result) (table .ensures) (plan .ensures)
     (node .result) (c .before .clear2 .last .0) (c .before .before .before .before .clear .last .0) (asks-won .result) (asks-misled .result) (own .result)
     (node .ensures) (asks-won .ensures) (c .before .clear2 .ensures .1) (asks-misled .ensures) (c .before .before .before .before .clear .ensures .1) (own .ensures)
 
@@ -112,6 +117,7 @@ carry-out-spec =
     array-read-cell-of-3
     array-read-cell-of-4
     cell-of-requires
+    table-requires
     decide-requires
     node-of-requires
     mul-nodes

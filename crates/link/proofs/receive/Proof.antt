@@ -2,8 +2,7 @@ use mathlib.Core.Path.{sym, subst}
 use Prim.Native.Nat.{_<_}
 use Rattle.charts.proofs.Places.{place-lt, class-lt}
 use Rattle.link.specs.Reading.{heardBy}
-use mathlib.Core.Logic.{⊎-elim}
-use borrow.Author.Tests.{eq-eqb, ne-eqb, lt-ltb, le-ltb, le-leb, lt-leb}
+use borrow.Author.Tests.{eq-eqb, ne-eqb}
 use borrow.Author.Needs.{needs}
 use Rattle.link.proofs.receive.Statement.{statement}
 use Rattle.link.proofs.receive.Tie as tie

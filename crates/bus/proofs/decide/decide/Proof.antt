@@ -4,7 +4,7 @@ use native.Mathlib.Omega.{arith}
 use mathlib.Core.Path.{sym, _∙_}
 use borrow.Author.Tests.{not-true, not-false, ltb-true}
 use Rattle.charts.proofs.Tools.{and-true}
-use Rattle.charts.specs.Valid.{phaseFits}
+use Rattle.charts.specs.Actions.{nextOf}
 use borrow.Author.Needs.{needs}
 use Rattle.bus.proofs.decide.decide.Statement.{statement}
 use Rattle.bus.proofs.decide.decide.Tie as tie
@@ -38,9 +38,9 @@ play-requires c κs =
     let a = c .before .before .before .before .before .args in
     let e = sym (c .before .is-ready .ensures) ∙ not-false (c .before .is-ready .result) (c .if1 .left) in
     let r = and-true (ltb (a .n) 64) _ e in
-    let s = and-true (phaseFits (a .n) (a .phase)) _ (r .1) in
+    let s = and-true (ltb (nextOf (a .phase)) 63) _ (r .1) in
     let size = ltb-true (a .n) 64 (r .0) in
-    (omega arith, (s .0, ltb-true (a .i) 63 (s .1)))
+    (omega arith, (ltb-true (nextOf (a .phase)) 63 (s .0), ltb-true (a .i) 63 (s .1)))
 
 returns-3 : tie.Need-returns-3
 returns-3 c = simp (c .before .before .before .before .d .given .1, ← c .before .before .is-ready .ensures, not-false (c .before .before .is-ready .result) (c .before .if1 .left), c .play .ensures)

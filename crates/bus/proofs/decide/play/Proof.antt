@@ -1,7 +1,21 @@
+use mathlib.Core.Path.{ap, _∙_}
 use Rattle.charts.specs.Actions.{outcome}
+use Rattle.charts.specs.View.{mark}
+use Rattle.link.specs.Reading.{heardBy}
+use Rattle.bus.specs.Plans.{settled}
+use Rattle.bus.proofs.Got.{heard-is}
 use borrow.Author.Needs.{needs}
 use Rattle.bus.proofs.decide.play.Statement.{statement}
 use Rattle.bus.proofs.decide.play.Tie as tie
+use Rattle.bus.proofs.decide.play.Reads as reads
+use Rattle.bus.proofs.decide.play.Lts as lts
+use Rattle.bus.proofs.actions.arbitrate.Reads as arbitrate-reads
+use Rattle.bus.proofs.actions.clock.Reads as clock-reads
+use Rattle.bus.proofs.actions.grant.Reads as grant-reads
+use Rattle.bus.proofs.actions.hear.Reads as hear-reads
+use Rattle.bus.proofs.actions.request.Reads as request-reads
+use Rattle.bus.proofs.actions.reset.Reads as reset-reads
+use Rattle.bus.proofs.actions.respond.Reads as respond-reads
 
 enum-known-m : tie.Need-enum-known-m
 enum-known-m c = search needs
@@ -27,11 +41,8 @@ enum-told-2 c = search needs
 clock-requires : tie.Need-clock-requires
 clock-requires c κs = search needs
 
-enum-known-m-3 : tie.Need-enum-known-m-3
-enum-known-m-3 c = search needs
-
-carry-requires : tie.Need-carry-requires
-carry-requires c κs = search needs
+hear-requires : tie.Need-hear-requires
+hear-requires c κs = search needs
 
 enum-told-3 : tie.Need-enum-told-3
 enum-told-3 c = search needs
@@ -41,12 +52,6 @@ grant-requires c κs = search needs
 
 enum-told-4 : tie.Need-enum-told-4
 enum-told-4 c = search needs
-
-gap-requires : tie.Need-gap-requires
-gap-requires c κs = search needs
-
-enum-told-5 : tie.Need-enum-told-5
-enum-told-5 c = search needs
 
 reset-requires : tie.Need-reset-requires
 reset-requires c κs = search needs
@@ -68,8 +73,10 @@ unfolding outcome
 returns-4 c = simp (c .before .enum-told2 .given .1, c .clock .ensures)
 
 returns-5 : tie.Need-returns-5
-unfolding outcome
-returns-5 c = simp (c .before .before .m3 .given .1, c .carry .ensures)
+returns-5 c =
+    let a = c .before .before .args in
+    c .hear .ensures ∙ ap (settled (a .phase) (a .c))
+    (heard-is (heardBy (a .table .now)) (a .n) (a .c) (mark (a .pending .now)) (a .phase) (a .concatenated) (a .i) (mark (a .won .now)) (mark (a .holder .now)) (a .m) (c .before .match .keys5))
 
 returns-6 : tie.Need-returns-6
 unfolding outcome
@@ -77,11 +84,7 @@ returns-6 c = simp (c .before .enum-told3 .given .1, c .grant .ensures)
 
 returns-7 : tie.Need-returns-7
 unfolding outcome
-returns-7 c = simp (c .before .enum-told4 .given .1, c .gap .ensures)
-
-returns-8 : tie.Need-returns-8
-unfolding outcome
-returns-8 c = simp (c .before .enum-told5 .given .1, c .reset .ensures)
+returns-7 c = simp (c .before .enum-told4 .given .1, c .reset .ensures)
 
 pub play-spec : {M : Type 1} → statement M
 play-spec =
@@ -95,13 +98,10 @@ play-spec =
     respond-requires
     enum-told-2
     clock-requires
-    enum-known-m-3
-    carry-requires
+    hear-requires
     enum-told-3
     grant-requires
     enum-told-4
-    gap-requires
-    enum-told-5
     reset-requires
     returns
     returns-2
@@ -109,5 +109,4 @@ play-spec =
     returns-4
     returns-5
     returns-6
-    returns-7
-    returns-8)
+    returns-7)

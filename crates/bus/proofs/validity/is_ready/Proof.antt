@@ -1,9 +1,13 @@
 use borrow.Author.Needs.{needs}
 use Rattle.bus.proofs.validity.is_ready.Statement.{statement}
 use Rattle.bus.proofs.validity.is_ready.Tie as tie
+use Rattle.bus.proofs.validity.is_ready.Reads as reads
+use Rattle.bus.proofs.validity.is_ready.Lts as lts
+use Rattle.bus.proofs.bools.both.Reads as both-reads
+use Rattle.bus.proofs.phases.next_of.Reads as next-of-reads
 
-phase-fits-requires : tie.Need-phase-fits-requires
-phase-fits-requires c κs = search needs
+next-of-requires : tie.Need-next-of-requires
+next-of-requires c κs = search needs
 
 both-requires : tie.Need-both-requires
 both-requires c κs = search needs
@@ -12,7 +16,7 @@ both-requires-2 : tie.Need-both-requires-2
 both-requires-2 c κs = search needs
 
 returns : tie.Need-returns
-returns c = simp (c .before .before .phase-fits .ensures, c .before .both .ensures, c .both2 .ensures)
+returns c = simp (c .before .before .next-of .ensures, c .before .both .ensures, c .both2 .ensures)
 
 pub is-ready-spec : {M : Type 1} → statement M
-is-ready-spec = tie.close (tie.spec phase-fits-requires both-requires both-requires-2 returns)
+is-ready-spec = tie.close (tie.spec next-of-requires both-requires both-requires-2 returns)

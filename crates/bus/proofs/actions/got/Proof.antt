@@ -1,0 +1,23 @@
+use borrow.Author.Needs.{needs}
+use Rattle.bus.proofs.actions.got.Statement.{statement}
+use Rattle.bus.proofs.actions.got.Tie as tie
+use Rattle.bus.proofs.actions.got.Reads as reads
+use Rattle.bus.proofs.actions.got.Lts as lts
+use Rattle.bus.proofs.actions.marking_in.Reads as marking-in-reads
+use Rattle.bus.proofs.actions.phase_after.Reads as phase-after-reads
+use Rattle.bus.proofs.plans.does.Reads as does-reads
+
+phase-after-requires : tie.Need-phase-after-requires
+phase-after-requires c κs = search needs
+
+marking-in-requires : tie.Need-marking-in-requires
+marking-in-requires c κs = search needs
+
+does-requires : tie.Need-does-requires
+does-requires c κs = search needs
+
+returns : tie.Need-returns
+returns c = simp (c .before .before .phase-after .ensures, c .before .marking-in .ensures, c .does .ensures)
+
+pub got-spec : {M : Type 1} → statement M
+got-spec = tie.close (tie.spec phase-after-requires marking-in-requires does-requires returns)
