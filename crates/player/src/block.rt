@@ -51,6 +51,7 @@ pub(crate) fn play_actions(
     ensures { λ r. ⌜ Plays (partOf (actionsIn count (now (piece .entry))) (view b) first) (now (out .entry)) at r (now (out .exit)) ⌝ }
 {
     let last = count as usize;
+    let table = link::table::table();
     let n = b.n;
     let mut phase = b.phase;
     let mut nodes = b.nodes;
@@ -70,6 +71,7 @@ pub(crate) fn play_actions(
         let node = nodes[i];
         let c = bus::cells::cell_of(node, won[i], pending[i], holder[i], misled[i]);
         let plan = bus::plan(
+            &table,
             n,
             phase,
             concatenated,
