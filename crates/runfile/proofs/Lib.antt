@@ -1,4 +1,5 @@
 pub mod Loops
+pub mod Sums
 pub mod Stored
 pub mod Parts
 pub mod Written

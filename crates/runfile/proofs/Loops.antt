@@ -2,10 +2,9 @@
 use mathlib.Core.Path.{_≡_, refl}
 use mathlib.Core.Bool.{Bool, true, false, _&&_}
 use mathlib.Core.List.{List, [], _∷_}
-use Prim.Native.Nat.{ℕ, suc, _+_, _*_, _-_, _/_, _%_, _<_, _≤_}
+use Prim.Native.Nat.{ℕ, suc, _+_, _-_, _/_, _%_, _<_, _≤_}
 use native.Mathlib.Omega.{arith}
 use native.Mathlib.Numerals.{add-one}
-use native.Mathlib.Nat.{mul-le-mul}
 use lib.Dec.{ltb}
 use lib.ListN.{length, take, drop, getD, set, drop-of-length-le}
 use lib.Seq.{slice, slice-cons, length-take-le, drop-cons, sets}
@@ -22,13 +21,6 @@ module _ (s : List ℕ) (i t : ℕ) (fits : t ≤ length s) where
 
   pub slice-more : i < t → slice i t s ≡ getD s i 0 ∷ slice (i + 1) t s
   slice-more h = rw (slice-cons i t s 0 h fits, add-one i)
-
--- a byte times a place of a block
-pub term-small : (x i : ℕ) → x < 256 → i < 510 → x * (i + 1) ≤ 255 * 510
-term-small x i p q =
-    let a : x ≤ 255 = omega arith in
-    let b : i + 1 ≤ 510 = omega arith in
-    mul-le-mul a b
 
 -- bytes stored, and zeros stored, from place i on
 pub bytes-more : (out bytes : List ℕ) (at i : ℕ) → i < length bytes

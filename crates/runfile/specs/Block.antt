@@ -36,6 +36,17 @@ checkSum body = weigh 0 body % 65521
 unfoldable pub checkOf : List ℕ → ℕ
 checkOf s = checkSum (take 510 s)
 
+-- the sum of all numbers of a list
+abbrev pub total : List ℕ → ℕ
+total [] = 0
+total (x ∷ l) = x + total l
+
+-- two lists of numbers added place by place
+abbrev pub plus : List ℕ → List ℕ → List ℕ
+plus [] m = []
+plus (x ∷ l) [] = []
+plus (x ∷ l) (y ∷ m) = (x + y) ∷ plus l m
+
 -- "count 0 or over 31" is refused
 abbrev pub isCount : ℕ → Bool
 isCount count = ltb 0 count && ltb count 32

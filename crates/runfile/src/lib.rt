@@ -4,10 +4,10 @@ pub mod order;
 ghost use mathlib.Core.Path.{_≡_};
 ghost use mathlib.Core.Bool.{true, _&&_};
 ghost use Prim.Native.Nat.{_+_, _*_, _-_, _<_, _≤_};
-ghost use lib.ListN.{length};
+ghost use lib.ListN.{length, take};
 ghost use lib.Seq.{sets, slice};
 ghost use Rattle.charts.specs.Valid.{isSize};
-ghost use Rattle.runfile.specs.Block.{checkOf, isCount, zeros, allZero, countIn, headOf, headFits, countFits, readBlock, blockFits, usedBytes};
+ghost use Rattle.runfile.specs.Block.{weigh, total, plus, checkOf, isCount, zeros, allZero, countIn, headOf, headFits, countFits, readBlock, blockFits, usedBytes};
 ghost use Rattle.runfile.specs.Write.{firstRefusal, writeNumber, bodyOf, blockWith, written};
 ghost use Rattle.record.specs.Layout.{actionsOf};
 use charts::Decoded;
@@ -56,13 +56,58 @@ fn is_count(count: usize) -> bool
     both(0 < count, count < 32)
 }
 
+// Adds a row of 16 bytes in columns: t is each column's sum, u adds up what t was before each row. In this order of the two sums the compiler adds many columns at once.
+fn add_row(t: &mut [u32; 16], u: &mut [u32; 16], row: &[u8])
+    requires { ⌜ (length (now t) ≡ 16) × (length (now u) ≡ 16) × (length (now row) ≡ 16) ⌝ }
+    requires { ⌜ total (now t) + total (now u) ≤ 4294967040 ⌝ }
+    ensures { λ _. ⌜ now (t .exit) ≡ plus (now (t .entry)) (now (row .entry)) ⌝ }
+    ensures { λ _. ⌜ now (u .exit) ≡ plus (now (u .entry)) (now (t .entry)) ⌝ }
+{
+    let mut c: usize = 0;
+    while c < 16 {
+        u[c] += t[c];
+        t[c] += wide(row[c]);
+        c += 1;
+    }
+}
+
+// The weighed sum of all rows: a column's sum times its place from 1 on, and 16 times for each row before.
+fn columns(t: &[u32; 16], u: &[u32; 16]) -> u32
+    requires { ⌜ (length (now t) ≡ 16) × (length (now u) ≡ 16) ⌝ }
+    requires { ⌜ 16 * total (now u) + weigh 0 (now t) < 4294967296 ⌝ }
+    ensures { λ r. ⌜ r ≡ 16 * total (now (u .entry)) + weigh 0 (now (t .entry)) ⌝ }
+{
+    let mut sum: u32 = 0;
+    let mut c: u32 = 0;
+    while c < 16 {
+        sum += 16 * u[c as usize] + t[c as usize] * (c + 1);
+        c += 1;
+    }
+    sum
+}
+
+// The weighed sum of bytes 0 to 495: 31 rows of 16, the last row first.
+fn rows_sum(block: &[u8]) -> u32
+    requires { ⌜ length (now block) ≡ 512 ⌝ }
+    ensures { λ r. ⌜ r ≡ weigh 0 (take 496 (now (block .entry))) ⌝ }
+{
+    let mut t: [u32; 16] = [0u32; 16];
+    let mut u: [u32; 16] = [0u32; 16];
+    let mut at: usize = 496;
+    while 0 < at {
+        at -= 16;
+        add_row(&mut t, &mut u, &block[at..at + 16]);
+    }
+    columns(&t, &u)
+}
+
 // The check of a block. The sum fits 32 bits, so the modulus is taken once.
 fn check_sum(block: &[u8]) -> u32
     requires { ⌜ length (now block) ≡ 512 ⌝ }
     ensures { λ r. ⌜ r ≡ checkOf (now (block .entry)) ⌝ }
 {
-    let mut sum: u32 = 0;
-    let mut i: u32 = 0;
+    let mut sum = rows_sum(block);
+    let mut i: u32 = 496;
     while i < 510 {
         sum += wide(block[i as usize]) * (i + 1);
         i += 1;
