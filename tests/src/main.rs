@@ -1,18 +1,19 @@
 //! `model`: the model written apart, and the trials that hold the programs `play`, `compose` and
 //! `list` against it.
 
-use std::io::{self, BufReader, BufWriter};
+use std::io::{self, BufReader, BufWriter, Write};
 use std::path::PathBuf;
 use std::process::ExitCode;
 
 use bench_model::harness::{bench, compare, compare_text, fuzz, generate, samples, walk};
-use bench_model::{notation, player};
+use bench_model::{notation, player, table};
 
 const USAGE: &str = "\
 model play                                        a run file in, the printed text out
 model compose [--lines]                           a run in plain words in, a run file out; or which line
                                                   says how many actions
 model list                                        a run file in, the run in plain words out
+model table                                       the reception chart, 24 lines of 14 cells
 model compare PLAY [--files N] [--seed S] [--only K]
                                                   made files, played by PLAY and by the model
 model fuzz PLAY [--files N] [--seed S]            bytes without a plan
@@ -52,6 +53,10 @@ fn command() -> Result<(), String> {
         "list" => {
             rest.end()?;
             list().map_err(|error| error.to_string())
+        }
+        "table" => {
+            rest.end()?;
+            io::stdout().write_all(table::text().as_bytes()).map_err(|error| error.to_string())
         }
         "compare-text" => {
             let files = rest.number("--files")?.unwrap_or(3000);

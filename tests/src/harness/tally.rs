@@ -5,42 +5,13 @@ use std::fmt::Write;
 
 use super::ways::Way;
 use super::workers::Merge;
-use crate::bus::{Action, Bus, Check, Mode, Phase, Record, Report, Reported, Signal, ALL_NODES};
+use crate::bus::{Action, Bus, Check, Mode, Phase, Record, Report, Reported, Signal};
+use crate::table::{class, place, CLASSES, MODES};
 
 /// Refusals that a file can meet: all but 12.
 const REFUSALS: [u8; 11] = [1, 2, 3, 4, 5, 6, 7, 8, 9, 10, 11];
 
 const REPORTS: [&str; 8] = ["won", "lost", "sent", "ack", "miss", "good", "dcrc", "broad"];
-
-/// The modes, those with a good and a bad case taken apart.
-const MODES: [&str; 24] = [
-    "Rest",
-    "Sending",
-    "AwaitAck",
-    "AckBody",
-    "AckEnd good",
-    "AckEnd bad",
-    "Opened",
-    "Addressed",
-    "HeadOwn",
-    "HeadAll",
-    "BodyOwn",
-    "BodyAll",
-    "TailOwn good",
-    "TailOwn bad",
-    "TailAll good",
-    "TailAll bad",
-    "Wait",
-    "Owed",
-    "Told",
-    "Answering",
-    "Acking",
-    "Holding",
-    "Spurious",
-    "Listening",
-];
-
-const SIGNALS: usize = 14;
 
 const EVENTS: [&str; 37] = [
     "Dest changed",
@@ -82,61 +53,13 @@ const EVENTS: [&str; 37] = [
     "reply missed on Gap",
 ];
 
-fn mode_class(mode: Mode) -> usize {
-    match mode {
-        Mode::Rest => 0,
-        Mode::Sending { .. } => 1,
-        Mode::AwaitAck => 2,
-        Mode::AckBody => 3,
-        Mode::AckEnd { good: Some(_) } => 4,
-        Mode::AckEnd { good: None } => 5,
-        Mode::Opened => 6,
-        Mode::Addressed => 7,
-        Mode::HeadOwn => 8,
-        Mode::HeadAll => 9,
-        Mode::BodyOwn { .. } => 10,
-        Mode::BodyAll { .. } => 11,
-        Mode::TailOwn { data: Some(_), .. } => 12,
-        Mode::TailOwn { data: None, .. } => 13,
-        Mode::TailAll { data: Some(_), .. } => 14,
-        Mode::TailAll { data: None, .. } => 15,
-        Mode::Wait => 16,
-        Mode::Owed => 17,
-        Mode::Told => 18,
-        Mode::Answering => 19,
-        Mode::Acking { .. } => 20,
-        Mode::Holding => 21,
-        Mode::Spurious => 22,
-        Mode::Listening => 23,
-    }
-}
-
-fn signal_class(signal: Signal, own: u8) -> usize {
-    match signal {
-        Signal::Start => 0,
-        Signal::End => 1,
-        Signal::Prefix => 2,
-        Signal::Gap => 3,
-        Signal::Dhead => 4,
-        Signal::Dest(address) if address == own => 5,
-        Signal::Dest(ALL_NODES) => 6,
-        Signal::Dest(_) => 7,
-        Signal::Header(_, Check::Good) => 8,
-        Signal::Header(_, Check::Bad) => 9,
-        Signal::Data(_, Check::Good) => 10,
-        Signal::Data(_, Check::Bad) => 11,
-        Signal::Ack(_, Check::Good) => 12,
-        Signal::Ack(_, Check::Bad) => 13,
-    }
-}
-
 /// The cells of the reception chart (mode and signal, 336 of them) that were met.
 #[derive(Clone)]
-pub struct Cells([[bool; SIGNALS]; MODES.len()]);
+pub struct Cells([[bool; CLASSES]; MODES.len()]);
 
 impl Default for Cells {
     fn default() -> Cells {
-        Cells([[false; SIGNALS]; MODES.len()])
+        Cells([[false; CLASSES]; MODES.len()])
     }
 }
 
@@ -150,7 +73,7 @@ impl Cells {
                 _ => return,
             },
         };
-        self.0[mode_class(bus.node(node).mode)][signal_class(signal, node)] = true;
+        self.0[place(bus.node(node).mode)][class(node, signal)] = true;
     }
 
     pub fn merge(&mut self, other: &Cells) {
@@ -223,7 +146,7 @@ impl Tally {
             refusals: Counts::new("refusals", REFUSALS),
             reports: Counts::new("reports", REPORTS),
             kinds: Counts::new("kinds accepted", 1..=10),
-            modes: Counts::new("node modes entered", MODES),
+            modes: Counts::new("node modes entered", MODES.map(|(name, _)| name)),
             events: Counts::new("events", EVENTS),
             ways: Counts::new("ways", Way::all()),
             cells: Cells::default(),
@@ -259,9 +182,9 @@ impl Tally {
             self.reports.hits[place.expect("every report has its place")] += 1;
         }
         for node in 0..after.n {
-            let mode = after.node(node).mode;
-            if mode_class(mode) != mode_class(before.node(node).mode) {
-                self.modes.hits[mode_class(mode)] += 1;
+            let (left, entered) = (before.node(node).mode, after.node(node).mode);
+            if left != entered && place(left) != place(entered) {
+                self.modes.hits[place(entered)] += 1;
             }
         }
         if let Ok(action) = record.look(before.n) {

@@ -1,6 +1,8 @@
 //! Short names for what the tests write often.
 #![allow(dead_code)]
 
+pub mod chart;
+
 use bench_model::bus::{Action, Bus, Packet, Record};
 use bench_model::{player, runfile};
 

@@ -1,0 +1,186 @@
+//! "What a node does with a signal", written by hand from the rows of document 01 and request 1.
+
+use bench_model::bus::{Check, Mode, Report, Signal};
+
+/// The mode before, then what comes of each signal: the mode, `!report`, `+` for pending. `.` is
+/// to stay. The lines are in document 01's order, the columns in that of [`Receiver::signals`].
+const TABLE: &str = "
+Rest      Opened . . . . . . . . . . . . .
+AwaitAck  AckBody Wait!miss . Rest!miss Wait!miss Wait!miss Wait!miss Wait!miss Wait!miss Wait!miss Wait!miss Wait!miss Wait!miss Wait!miss
+AckBody   Wait!miss Wait!miss Wait!miss Rest!miss AckEnd- AckEnd- AckEnd- AckEnd- AckEnd- AckEnd- AckEnd- AckEnd- AckEnd AckEnd-
+AckEnd    Wait!miss Wait!ack Listening!ack Rest!miss Wait!miss Wait!miss Wait!miss Wait!miss Wait!miss Wait!miss Wait!miss Wait!miss Wait!miss Wait!miss
+AckEnd-   Wait!miss Wait!miss Wait!miss Rest!miss Wait!miss Wait!miss Wait!miss Wait!miss Wait!miss Wait!miss Wait!miss Wait!miss Wait!miss Wait!miss
+Opened    Wait Wait Wait Rest Addressed Addressed Addressed Addressed Addressed Addressed Addressed Addressed Addressed Addressed
+Addressed Wait Wait Wait Rest Wait HeadOwn+ HeadAll Wait Wait Wait Wait Wait Wait Wait
+HeadOwn   Owed Owed Owed Owed Owed Owed Owed Owed BodyOwn Owed Owed Owed Owed Owed
+HeadAll   Wait Wait Wait Rest Wait Wait Wait Wait BodyAll Wait Wait Wait Wait Wait
+BodyOwn   Owed Owed Owed Owed Owed Owed Owed Owed Owed Owed TailOwn TailOwn- Owed Owed
+BodyAll   Wait Wait Wait Rest Wait Wait Wait Wait Wait Wait TailAll TailAll- Wait Wait
+TailOwn   Owed Told!good Told!good Owed Owed Owed Owed Owed Owed Owed Owed Owed Owed Owed
+TailOwn-  Owed Told!dcrc Told!dcrc Owed Owed Owed Owed Owed Owed Owed Owed Owed Owed Owed
+TailAll   Wait Rest!broad Rest!broad Rest Wait Wait Wait Wait Wait Wait Wait Wait Wait Wait
+TailAll-  Wait Rest Rest Rest Wait Wait Wait Wait Wait Wait Wait Wait Wait Wait
+Wait      . . . Rest . . . . . . . . . .
+Owed      . . . . . . . . . . . . . .
+Sending   . . . . . . . . . . . . . .
+Told      . . . . . . . . . . . . . .
+Answering . . . . . . . . . . . . . .
+Acking    . . . . . . . . . . . . . .
+Holding   . . . . . . . . . . . . . .
+Spurious  . . . . . . . . . . . . . .
+Listening Opened Wait . Rest Wait Wait Wait Wait Wait Wait Wait Wait Wait Wait
+";
+
+/// What stands in a cell: the next mode's name, the report's word, whether the node is entered as
+/// pending.
+#[derive(Clone, Copy, PartialEq, Eq, Debug)]
+pub struct Answer {
+    pub next: &'static str,
+    pub report: Option<&'static str>,
+    pub pending: bool,
+}
+
+/// A mode's line: its name and its 14 cells.
+pub type Row = (&'static str, Vec<Answer>);
+
+/// The table, 24 lines.
+pub fn rows() -> Vec<Row> {
+    let rows: Vec<Row> = TABLE.lines().filter(|line| !line.is_empty()).map(row).collect();
+    assert_eq!(rows.len(), 24);
+    rows
+}
+
+fn row(line: &'static str) -> Row {
+    let mut words = line.split_whitespace();
+    let before = words.next().unwrap();
+    let answers: Vec<Answer> = words.map(|word| answer(before, word)).collect();
+    assert_eq!(answers.len(), 14, "{before}");
+    (before, answers)
+}
+
+fn answer(before: &'static str, word: &'static str) -> Answer {
+    if word == "." {
+        Answer { next: before, report: None, pending: false }
+    } else if let Some((next, report)) = word.split_once('!') {
+        Answer { next, report: Some(report), pending: false }
+    } else if let Some(next) = word.strip_suffix('+') {
+        Answer { next, report: None, pending: true }
+    } else {
+        Answer { next: word, report: None, pending: false }
+    }
+}
+
+/// What modes remember, or what signals carry.
+#[derive(Clone, Copy, Debug)]
+pub struct Values {
+    pub header: u32,
+    pub data: u32,
+    pub ack: u8,
+}
+
+/// A receiver: its number and another node's, what its modes remember and what its signals carry.
+#[derive(Clone, Copy, Debug)]
+pub struct Receiver {
+    pub own: u8,
+    pub other: u8,
+    pub step: u8,
+    pub hold: bool,
+    pub remembered: Values,
+    pub carried: Values,
+}
+
+const SOME: Values = Values { header: 7, data: 9, ack: 3 };
+const LEAST: Values = Values { header: 0, data: 0, ack: 0 };
+const MOST: Values = Values { header: u32::MAX, data: u32::MAX, ack: 15 };
+/// Numbers that nodes and addresses have too.
+const NUMBERS: Values = Values { header: 1, data: 63, ack: 15 };
+
+pub const RECEIVERS: [Receiver; 5] = [
+    Receiver { own: 4, other: 5, step: 2, hold: true, remembered: SOME, carried: SOME },
+    Receiver { own: 0, other: 1, step: 0, hold: false, remembered: LEAST, carried: MOST },
+    Receiver { own: 62, other: 61, step: 5, hold: true, remembered: MOST, carried: LEAST },
+    Receiver { own: 1, other: 62, step: 1, hold: false, remembered: SOME, carried: NUMBERS },
+    Receiver { own: 15, other: 0, step: 4, hold: true, remembered: NUMBERS, carried: SOME },
+];
+
+impl Receiver {
+    /// The columns: Start, End, Prefix, Gap, Dhead, Dest own, Dest 63, Dest of another, Header good
+    /// and bad, Data good and bad, Ack good and bad.
+    pub fn signals(&self) -> [Signal; 14] {
+        let Values { header, data, ack } = self.carried;
+        [
+            Signal::Start,
+            Signal::End,
+            Signal::Prefix,
+            Signal::Gap,
+            Signal::Dhead,
+            Signal::Dest(self.own),
+            Signal::Dest(63),
+            Signal::Dest(self.other),
+            Signal::Header(header, Check::Good),
+            Signal::Header(header, Check::Bad),
+            Signal::Data(data, Check::Good),
+            Signal::Data(data, Check::Bad),
+            Signal::Ack(ack, Check::Good),
+            Signal::Ack(ack, Check::Bad),
+        ]
+    }
+
+    /// The mode with this name, as the receiver remembers it.
+    pub fn mode(&self, name: &str) -> Mode {
+        let Values { header, data, ack } = self.remembered;
+        match name {
+            "Rest" => Mode::Rest,
+            "AwaitAck" => Mode::AwaitAck,
+            "AckBody" => Mode::AckBody,
+            "AckEnd" => Mode::AckEnd { good: Some(ack) },
+            "AckEnd-" => Mode::AckEnd { good: None },
+            "Opened" => Mode::Opened,
+            "Addressed" => Mode::Addressed,
+            "HeadOwn" => Mode::HeadOwn,
+            "HeadAll" => Mode::HeadAll,
+            "BodyOwn" => Mode::BodyOwn { header },
+            "BodyAll" => Mode::BodyAll { header },
+            "TailOwn" => Mode::TailOwn { header, data: Some(data) },
+            "TailOwn-" => Mode::TailOwn { header, data: None },
+            "TailAll" => Mode::TailAll { header, data: Some(data) },
+            "TailAll-" => Mode::TailAll { header, data: None },
+            "Wait" => Mode::Wait,
+            "Owed" => Mode::Owed,
+            "Sending" => Mode::Sending { step: self.step },
+            "Told" => Mode::Told,
+            "Answering" => Mode::Answering,
+            "Acking" => Mode::Acking { step: self.step % 3, ack, hold: self.hold },
+            "Holding" => Mode::Holding,
+            "Spurious" => Mode::Spurious,
+            "Listening" => Mode::Listening,
+            _ => panic!("{name} is no mode"),
+        }
+    }
+
+    /// The report with this word, of what the receiver remembers.
+    pub fn report(&self, word: &str) -> Report {
+        let Values { header, data, ack } = self.remembered;
+        match word {
+            "miss" => Report::Miss,
+            "ack" => Report::Ack(ack),
+            "good" => Report::Good { header, data },
+            "dcrc" => Report::Dcrc { header },
+            "broad" => Report::Broad { header, data },
+            _ => panic!("{word} is no report of a reception"),
+        }
+    }
+
+    /// What it remembers when a mode is entered by this signal: what the signal carries, and else
+    /// what it remembered before.
+    pub fn entering_by(&self, signal: Signal) -> Receiver {
+        let mut after = *self;
+        match signal {
+            Signal::Header(header, _) => after.remembered.header = header,
+            Signal::Data(data, _) => after.remembered.data = data,
+            Signal::Ack(ack, _) => after.remembered.ack = ack,
+            _ => (),
+        }
+        after
+    }
+}
