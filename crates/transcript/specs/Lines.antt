@@ -1,8 +1,12 @@
 -- "A run printed": the lines of text.
+use mathlib.Core.Bool.{Bool, cond}
 use mathlib.Core.List.{List, [], _∷_, _++_}
 use Prim.Native.Nat.{ℕ}
+use lib.Dec.{eqb}
 use Rattle.charts.specs.declared.Report.{Report}
 use Rattle.charts.specs.declared.Report.the-variants.{Silent, Won, Lost, Sent, Acked, Miss, Good, Dcrc, Broad}
+use Rattle.charts.specs.declared.Entry.{Entry}
+use Rattle.charts.specs.Words as W
 use Rattle.transcript.specs.Text.{ascii, decimal}
 
 -- words as a line: a space between two, and a newline after the last
@@ -11,17 +15,29 @@ line [] = 10 ∷ []
 line (w ∷ []) = w ++ (10 ∷ [])
 line (w ∷ v ∷ l) = w ++ (32 ∷ line (v ∷ l))
 
+-- the first word of a report by its number, `-` for none
+abbrev pub firstWord : ℕ → List ℕ
+firstWord w =
+    cond (eqb w W.won) (ascii "won")
+    (cond (eqb w W.lost) (ascii "lost")
+    (cond (eqb w W.sent) (ascii "sent")
+    (cond (eqb w W.acked) (ascii "ack")
+    (cond (eqb w W.miss) (ascii "miss")
+    (cond (eqb w W.good) (ascii "good")
+    (cond (eqb w W.dcrc) (ascii "dcrc")
+    (cond (eqb w W.broad) (ascii "broad") (ascii "-"))))))))
+
 -- "`-` or node and report"
 abbrev pub said : Report → List (List ℕ)
-said Silent = ascii "-" ∷ []
-said (Won i) = decimal i ∷ ascii "won" ∷ []
-said (Lost i) = decimal i ∷ ascii "lost" ∷ []
-said (Sent i) = decimal i ∷ ascii "sent" ∷ []
-said (Acked i a) = decimal i ∷ ascii "ack" ∷ decimal a ∷ []
-said (Miss i) = decimal i ∷ ascii "miss" ∷ []
-said (Good i h d) = decimal i ∷ ascii "good" ∷ decimal (h .header) ∷ decimal d ∷ []
-said (Dcrc i h) = decimal i ∷ ascii "dcrc" ∷ decimal (h .header) ∷ []
-said (Broad i h d) = decimal i ∷ ascii "broad" ∷ decimal (h .header) ∷ decimal d ∷ []
+said Silent = firstWord W.silent ∷ []
+said (Won i) = decimal i ∷ firstWord W.won ∷ []
+said (Lost i) = decimal i ∷ firstWord W.lost ∷ []
+said (Sent i) = decimal i ∷ firstWord W.sent ∷ []
+said (Acked i a) = decimal i ∷ firstWord W.acked ∷ decimal a ∷ []
+said (Miss i) = decimal i ∷ firstWord W.miss ∷ []
+said (Good i h d) = decimal i ∷ firstWord W.good ∷ decimal (h .header) ∷ decimal d ∷ []
+said (Dcrc i h) = decimal i ∷ firstWord W.dcrc ∷ decimal (h .header) ∷ []
+said (Broad i h d) = decimal i ∷ firstWord W.broad ∷ decimal (h .header) ∷ decimal d ∷ []
 
 -- "The player's line: index, kind, then `-` or node and report"
 unfoldable pub lineOf : ℕ → ℕ → Report → List ℕ
@@ -40,3 +56,10 @@ refusedLine count number = line (ascii "refused" ∷ decimal count ∷ decimal n
 -- "the line's number and how many actions it says"
 unfoldable pub spanLine : ℕ → ℕ → List ℕ
 spanLine number times = line (decimal number ∷ decimal times ∷ [])
+
+-- a cell of the chart's table, request 2: "the next mode's place from 0, the report's first word or `-`, and 1 or 0, with single spaces"
+abbrev pub flag : Bool → ℕ
+flag b = cond b 49 48
+
+unfoldable pub cellText : Entry → List ℕ
+cellText e = decimal (e .place) ++ (32 ∷ (firstWord (e .word) ++ (32 ∷ flag (e .pends) ∷ [])))

@@ -5,14 +5,16 @@ mod text;
 mod words;
 
 ghost use mathlib.Core.Path.{_≡_};
+ghost use mathlib.Core.List.{[], _∷_, _++_};
 ghost use Prim.Native.Nat.{_+_, _≤_};
 ghost use lib.Dec.{leb};
 ghost use lib.ListN.{length};
-ghost use Rattle.transcript.specs.Lines.{lineOf, nodesLine, doneLine, refusedLine, spanLine};
+ghost use Rattle.transcript.specs.Lines.{lineOf, nodesLine, doneLine, refusedLine, spanLine, cellText};
 ghost use Rattle.transcript.specs.Printed.{actionLine};
 ghost use Rattle.transcript.specs.Room.{longest, endIn, putIn, endOf, putLine};
 ghost use Rattle.transcript.specs.Text.{decimal};
 use charts::Action;
+use charts::Entry;
 use charts::Report;
 
 const LONGEST: usize = 64;
@@ -100,6 +102,23 @@ pub fn put_action(out: &mut [u8], at: usize, a: Action) -> usize
         return at;
     }
     words::put_action(out, at, a)
+}
+
+// A cell of the reception chart's table, and a byte after it.
+pub fn put_cell(out: &mut [u8], at: usize, e: Entry, after: u8) -> usize
+    ensures { λ r. ⌜ r ≤ at + 12 ⌝ }
+    ensures { λ r. ⌜ r ≡ endOf (now (out .entry)) at (cellText e ++ (after ∷ [])) ⌝ }
+    ensures { λ _. ⌜ now (out .exit) ≡ putLine (now (out .entry)) at (cellText e ++ (after ∷ [])) ⌝ }
+{
+    if !has_room(out.len(), at, LONGEST) {
+        return at;
+    }
+    let a = text::put_u8(out, at, e.place);
+    let b = text::put_byte(out, a, b' ');
+    let c = text::put_first_word(out, b, e.word);
+    let d = text::put_byte(out, c, b' ');
+    let f = text::put_flag(out, d, e.pends);
+    text::put_byte(out, f, after)
 }
 
 // A line's number and how many actions it says.

@@ -1,0 +1,29 @@
+use borrow.Author.Needs.{needs}
+use Rattle.transcript.proofs.text.put_flag.Statement.{statement}
+use Rattle.transcript.proofs.text.put_flag.Tie as tie
+use Rattle.transcript.proofs.text.put_flag.Reads as reads
+use Rattle.transcript.proofs.text.put_flag.Lts as lts
+use Rattle.transcript.proofs.text.put_byte.Reads as put-byte-reads
+
+put-byte-requires : tie.Need-put-byte-requires
+put-byte-requires c κs = search needs
+
+same-length : tie.Need-same-length
+same-length c = search needs
+
+returns : tie.Need-returns
+returns c = rw (c .before .before .before .before .if1 .taken) (c .before .before .put-byte .ensures)
+
+put-byte-requires-2 : tie.Need-put-byte-requires-2
+put-byte-requires-2 c κs = search needs
+
+same-length-2 : tie.Need-same-length-2
+same-length-2 c = search needs
+
+returns-2 : tie.Need-returns-2
+returns-2 c = rw (c .before .before .before .before .if1 .left) (c .before .before .put-byte2 .ensures)
+
+pub put-flag-spec : {M : Type 1} → statement M
+put-flag-spec =
+    tie.close
+    (tie.spec put-byte-requires same-length returns put-byte-requires-2 same-length-2 returns-2)
