@@ -1,0 +1,14 @@
+use borrow.Author.Tests.{ne-eqb}
+use Rattle.maker.proofs.end_of.Statement.{statement}
+use Rattle.maker.proofs.end_of.Tie as tie
+use Rattle.maker.proofs.end_of.Reads as reads
+use Rattle.maker.proofs.end_of.Lts as lts
+
+returns : tie.Need-returns
+returns c = simp (c .match .keys1)
+
+returns-2 : tie.Need-returns-2
+returns-2 c = simp (ne-eqb _ _ (c .match .rest .1))
+
+pub end-of-spec : {M : Type 1} → statement M
+end-of-spec = tie.close (tie.spec returns returns-2)

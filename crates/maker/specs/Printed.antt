@@ -1,0 +1,19 @@
+-- Request 2: "A program prints the table from the rules, a line for each mode in document 01's order (the good one of two first, new modes last): its cells in the order above".
+use mathlib.Core.Bool.{cond}
+use mathlib.Core.List.{List, [], _∷_, _++_}
+use Prim.Native.Nat.{ℕ, zero, suc, _/_, _%_}
+use lib.Dec.{eqb}
+use Rattle.charts.specs.Table.{entry}
+use Rattle.transcript.specs.Lines.{cellText}
+
+-- what follows a cell of that class: a newline after the last of the 14, else a space
+abbrev pub endOf : ℕ → ℕ
+endOf c = cond (eqb c 13) 10 32
+
+-- the text of k cells from the i-th on, mode by mode; of all 24 × 14
+abbrev pub cellsText : ℕ → ℕ → List ℕ
+cellsText zero i = []
+cellsText (suc k) i = (cellText (entry (i / 14) (i % 14)) ++ (endOf (i % 14) ∷ [])) ++ cellsText k (suc i)
+
+unfoldable pub tableText : List ℕ
+tableText = cellsText 336 0
