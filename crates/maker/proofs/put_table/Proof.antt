@@ -55,7 +55,7 @@ loop-again c =
     let text = cellText (entry (l .k / 14) (l .k % 14)) ++ (endOf (l .k % 14) ∷ []) in
     let long : length (l .out) ≡ 4096 = search (needs, c .before .before .put-cell-arg .given) in
     let cell : Puts (l .out) (l .end) text (c .put-cell .result) (c .put-cell .last .0) =
-      puts-line (omega (arith, more, l .inv .1)) (rw (c .before .end-of .ensures, c .before .before .before .rule .ensures) at (put .1 .0)) (rw (c .before .end-of .ensures, c .before .before .before .rule .ensures) at (put .1 .1)) in
+    puts-line (omega (arith, more, l .inv .1)) (rw (c .before .end-of .ensures, c .before .before .before .rule .ensures) at (put .1 .0)) (rw (c .before .end-of .ensures, c .before .before .before .rule .ensures) at (put .1 .1)) in
     (omega (arith, more), omega (arith, put .0, l .inv .1), λ stop last p. l .inv .2 stop last (rw (left-more (l .k) more) (and-then cell p)))
 
 returns : tie.Need-returns Inv-loop μ-loop
