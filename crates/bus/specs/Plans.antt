@@ -1,6 +1,5 @@
 -- Plans: what an action, or a refused record, comes to for the one node that it is about.
-use mathlib.Core.Path.{_≡_}
-use mathlib.Core.Bool.{Bool, true, cond, _&&_}
+use mathlib.Core.Bool.{Bool, cond, _&&_}
 use Prim.Native.Nat.{ℕ, _<_, _≤_}
 use lib.Dec.{ltb}
 use Rattle.charts.specs.declared.Report.{Report}

@@ -11,7 +11,6 @@ use Rattle.charts.specs.declared.Mode.the-variants.{Rest, AckBody, AckEnd, Open
 use Rattle.charts.specs.declared.Signal.{Signal}
 use Rattle.charts.specs.declared.Report.{Report}
 use Rattle.charts.specs.declared.Report.the-variants.{Silent, Acked, Miss, Good, Dcrc, Broad}
-use Rattle.charts.specs.declared.Heard.{Heard}
 use Rattle.charts.specs.declared.Entry.{Entry}
 use Rattle.charts.specs.Modes as P
 use Rattle.charts.specs.Modes.{placeOf}

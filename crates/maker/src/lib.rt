@@ -1,6 +1,6 @@
 // The reception chart's table as text, from the rules.
 ghost use mathlib.Core.Path.{_≡_};
-ghost use Prim.Native.Nat.{_%_, _≤_};
+ghost use Prim.Native.Nat.{_≤_};
 ghost use lib.ListN.{length};
 ghost use Rattle.transcript.specs.Room.{put};
 ghost use Rattle.maker.specs.Printed.{endOf, tableText};

@@ -2,12 +2,6 @@ use borrow.Author.Tests.{ne-eqb}
 use borrow.Author.Needs.{needs}
 use Rattle.link.proofs.enter.Statement.{statement}
 use Rattle.link.proofs.enter.Tie as tie
-use Rattle.link.proofs.enter.Reads as reads
-use Rattle.link.proofs.enter.Lts as lts
-use Rattle.link.proofs.modes.head_in.Reads as head-in-reads
-use Rattle.link.proofs.signals.ack_of.Reads as ack-of-reads
-use Rattle.link.proofs.signals.datum_of.Reads as datum-of-reads
-use Rattle.link.proofs.signals.head_of.Reads as head-of-reads
 
 ack-of-requires : tie.Need-ack-of-requires
 ack-of-requires c κs = search needs

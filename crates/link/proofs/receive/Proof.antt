@@ -6,16 +6,6 @@ use borrow.Author.Tests.{eq-eqb, ne-eqb}
 use borrow.Author.Needs.{needs}
 use Rattle.link.proofs.receive.Statement.{statement}
 use Rattle.link.proofs.receive.Tie as tie
-use Rattle.link.proofs.receive.Reads as reads
-use Rattle.link.proofs.receive.Lts as lts
-use Rattle.link.proofs.enter.Reads as enter-reads
-use Rattle.link.proofs.modes.place_of.Reads as place-of-reads
-use Rattle.link.proofs.say.Reads as say-reads
-use Rattle.link.proofs.signals.class_of.Reads as class-of-reads
-use Rattle.link.proofs.table.cell_at.Reads as cell-at-reads
-use Rattle.link.proofs.table.pends_in.Reads as pends-in-reads
-use Rattle.link.proofs.table.place_in.Reads as place-in-reads
-use Rattle.link.proofs.table.word_in.Reads as word-in-reads
 
 place-of-requires : tie.Need-place-of-requires
 place-of-requires c κs = search needs

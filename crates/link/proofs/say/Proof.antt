@@ -2,11 +2,6 @@ use borrow.Author.Tests.{ne-eqb}
 use borrow.Author.Needs.{needs}
 use Rattle.link.proofs.say.Statement.{statement}
 use Rattle.link.proofs.say.Tie as tie
-use Rattle.link.proofs.say.Reads as reads
-use Rattle.link.proofs.say.Lts as lts
-use Rattle.link.proofs.modes.ack_in.Reads as ack-in-reads
-use Rattle.link.proofs.modes.datum_in.Reads as datum-in-reads
-use Rattle.link.proofs.modes.head_in.Reads as head-in-reads
 
 ack-in-requires : tie.Need-ack-in-requires
 ack-in-requires c κs = search needs

@@ -1,8 +1,6 @@
 use borrow.Author.Tests.{ne-eqb}
 use Rattle.maker.proofs.end_of.Statement.{statement}
 use Rattle.maker.proofs.end_of.Tie as tie
-use Rattle.maker.proofs.end_of.Reads as reads
-use Rattle.maker.proofs.end_of.Lts as lts
 
 returns : tie.Need-returns
 returns c = simp (c .match .keys1)

@@ -11,13 +11,6 @@ use Rattle.transcript.proofs.PrintLaws.{at-text}
 use borrow.Author.Needs.{needs}
 use Rattle.transcript.proofs.put_cell.Statement.{statement}
 use Rattle.transcript.proofs.put_cell.Tie as tie
-use Rattle.transcript.proofs.put_cell.Reads as reads
-use Rattle.transcript.proofs.put_cell.Lts as lts
-use Rattle.transcript.proofs.has_room.Reads as has-room-reads
-use Rattle.transcript.proofs.text.put_byte.Reads as put-byte-reads
-use Rattle.transcript.proofs.text.put_first_word.Reads as put-first-word-reads
-use Rattle.transcript.proofs.text.put_flag.Reads as put-flag-reads
-use Rattle.transcript.proofs.text.put_u8.Reads as put-u8-reads
 
 has-room-requires : tie.Need-has-room-requires
 has-room-requires c κs = search needs

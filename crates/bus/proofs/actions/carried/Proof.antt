@@ -1,9 +1,6 @@
 use borrow.Author.Needs.{needs}
 use Rattle.bus.proofs.actions.carried.Statement.{statement}
 use Rattle.bus.proofs.actions.carried.Tie as tie
-use Rattle.bus.proofs.actions.carried.Reads as reads
-use Rattle.bus.proofs.actions.carried.Lts as lts
-use Rattle.link.proofs.arrive.Reads as arrive-reads
 
 enum-told : tie.Need-enum-told
 enum-told c = search needs

@@ -1,8 +1,6 @@
 use borrow.Author.Needs.{needs}
 use Rattle.bus.proofs.actions.gapped.Statement.{statement}
 use Rattle.bus.proofs.actions.gapped.Tie as tie
-use Rattle.bus.proofs.actions.gapped.Reads as reads
-use Rattle.bus.proofs.actions.gapped.Lts as lts
 
 enum-told : tie.Need-enum-told
 enum-told c = search needs

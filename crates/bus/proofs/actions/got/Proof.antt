@@ -1,11 +1,6 @@
 use borrow.Author.Needs.{needs}
 use Rattle.bus.proofs.actions.got.Statement.{statement}
 use Rattle.bus.proofs.actions.got.Tie as tie
-use Rattle.bus.proofs.actions.got.Reads as reads
-use Rattle.bus.proofs.actions.got.Lts as lts
-use Rattle.bus.proofs.actions.marking_in.Reads as marking-in-reads
-use Rattle.bus.proofs.actions.phase_after.Reads as phase-after-reads
-use Rattle.bus.proofs.plans.does.Reads as does-reads
 
 phase-after-requires : tie.Need-phase-after-requires
 phase-after-requires c κs = search needs

@@ -1,14 +1,6 @@
 use borrow.Author.Needs.{needs}
 use Rattle.bus.proofs.actions.hear.Statement.{statement}
 use Rattle.bus.proofs.actions.hear.Tie as tie
-use Rattle.bus.proofs.actions.hear.Reads as reads
-use Rattle.bus.proofs.actions.hear.Lts as lts
-use Rattle.bus.proofs.actions.got.Reads as got-reads
-use Rattle.bus.proofs.actions.hearing.Reads as hearing-reads
-use Rattle.bus.proofs.actions.incoming.Reads as incoming-reads
-use Rattle.bus.proofs.phases.next_of.Reads as next-of-reads
-use Rattle.bus.proofs.plans.closed.Reads as closed-reads
-use Rattle.link.proofs.receive.Reads as receive-reads
 
 incoming-requires : tie.Need-incoming-requires
 incoming-requires c κs = search needs

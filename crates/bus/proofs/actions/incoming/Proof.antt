@@ -1,10 +1,6 @@
 use borrow.Author.Needs.{needs}
 use Rattle.bus.proofs.actions.incoming.Statement.{statement}
 use Rattle.bus.proofs.actions.incoming.Tie as tie
-use Rattle.bus.proofs.actions.incoming.Reads as reads
-use Rattle.bus.proofs.actions.incoming.Lts as lts
-use Rattle.bus.proofs.actions.carried.Reads as carried-reads
-use Rattle.bus.proofs.actions.gapped.Reads as gapped-reads
 
 enum-told : tie.Need-enum-told
 enum-told c = search needs

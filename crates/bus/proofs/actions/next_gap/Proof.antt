@@ -3,8 +3,6 @@ use borrow.Author.Tests.{lt-ltb, le-ltb}
 use borrow.Author.Needs.{needs}
 use Rattle.bus.proofs.actions.next_gap.Statement.{statement}
 use Rattle.bus.proofs.actions.next_gap.Tie as tie
-use Rattle.bus.proofs.actions.next_gap.Reads as reads
-use Rattle.bus.proofs.actions.next_gap.Lts as lts
 
 add-if1 : tie.Need-add-if1
 add-if1 c = search needs

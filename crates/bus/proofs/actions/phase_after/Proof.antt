@@ -1,10 +1,6 @@
 use borrow.Author.Needs.{needs}
 use Rattle.bus.proofs.actions.phase_after.Statement.{statement}
 use Rattle.bus.proofs.actions.phase_after.Tie as tie
-use Rattle.bus.proofs.actions.phase_after.Reads as reads
-use Rattle.bus.proofs.actions.phase_after.Lts as lts
-use Rattle.bus.proofs.actions.next_gap.Reads as next-gap-reads
-use Rattle.bus.proofs.actions.onward.Reads as onward-reads
 
 enum-told : tie.Need-enum-told
 enum-told c = search needs

@@ -1,4 +1,3 @@
-use mathlib.Core.Bool.{_&&_}
 use lib.Dec.{ltb}
 use native.Mathlib.Omega.{arith}
 use mathlib.Core.Path.{sym, _∙_}

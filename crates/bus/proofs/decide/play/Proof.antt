@@ -7,15 +7,6 @@ use Rattle.bus.proofs.Got.{heard-is}
 use borrow.Author.Needs.{needs}
 use Rattle.bus.proofs.decide.play.Statement.{statement}
 use Rattle.bus.proofs.decide.play.Tie as tie
-use Rattle.bus.proofs.decide.play.Reads as reads
-use Rattle.bus.proofs.decide.play.Lts as lts
-use Rattle.bus.proofs.actions.arbitrate.Reads as arbitrate-reads
-use Rattle.bus.proofs.actions.clock.Reads as clock-reads
-use Rattle.bus.proofs.actions.grant.Reads as grant-reads
-use Rattle.bus.proofs.actions.hear.Reads as hear-reads
-use Rattle.bus.proofs.actions.request.Reads as request-reads
-use Rattle.bus.proofs.actions.reset.Reads as reset-reads
-use Rattle.bus.proofs.actions.respond.Reads as respond-reads
 
 enum-known-m : tie.Need-enum-known-m
 enum-known-m c = search needs

@@ -1,10 +1,6 @@
 use borrow.Author.Needs.{needs}
 use Rattle.bus.proofs.validity.is_ready.Statement.{statement}
 use Rattle.bus.proofs.validity.is_ready.Tie as tie
-use Rattle.bus.proofs.validity.is_ready.Reads as reads
-use Rattle.bus.proofs.validity.is_ready.Lts as lts
-use Rattle.bus.proofs.bools.both.Reads as both-reads
-use Rattle.bus.proofs.phases.next_of.Reads as next-of-reads
 
 next-of-requires : tie.Need-next-of-requires
 next-of-requires c κs = search needs

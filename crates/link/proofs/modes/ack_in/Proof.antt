@@ -1,8 +1,6 @@
 use borrow.Author.Needs.{needs}
 use Rattle.link.proofs.modes.ack_in.Statement.{statement}
 use Rattle.link.proofs.modes.ack_in.Tie as tie
-use Rattle.link.proofs.modes.ack_in.Reads as reads
-use Rattle.link.proofs.modes.ack_in.Lts as lts
 
 enum-told : tie.Need-enum-told
 enum-told c = search needs

@@ -4,10 +4,6 @@ use borrow.Author.Needs.{needs}
 use Rattle.link.proofs.Ruled.{spurious-rule}
 use Rattle.link.proofs.rules.rule.Statement.{statement}
 use Rattle.link.proofs.rules.rule.Tie as tie
-use Rattle.link.proofs.rules.rule.Reads as reads
-use Rattle.link.proofs.rules.rule.Lts as lts
-use Rattle.link.proofs.rules.goes.Reads as goes-reads
-use Rattle.link.proofs.rules.tells.Reads as tells-reads
 
 goes-requires : tie.Need-goes-requires
 goes-requires c κs = search needs
@@ -289,13 +285,13 @@ returns-36 : tie.Need-returns-36
 returns-36 c = simp (c .before .before .before .match .keys12, le-ltb _ _ (c .before .before .if3 .left), lt-ltb _ _ (c .before .if4 .taken), c .tells11 .ensures)
 
 returns-37 : tie.Need-returns-37
-returns-37 c = simp (c .before .before .match .keys12, c .goes25 .ensures) (⊎-elim (λ w. simp (lt-ltb _ _ (w .taken), c .before .before .match .keys12, c .goes25 .ensures)) (λ w. simp (le-ltb _ _ (w .0 .left), le-ltb _ _ (w .1 .left), c .before .before .match .keys12, c .goes25 .ensures)) (c .before .if3 .came))
+returns-37 c = simp (c .before .before .match .keys12, c .goes25 .ensures) (⊎-elim (λ w. simp (lt-ltb _ _ (w .taken))) (λ w. simp (le-ltb _ _ (w .0 .left), le-ltb _ _ (w .1 .left))) (c .before .if3 .came))
 
 returns-38 : tie.Need-returns-38
 returns-38 c = simp (c .before .before .before .match .keys13, le-ltb _ _ (c .before .before .if5 .left), lt-ltb _ _ (c .before .if6 .taken), c .tells12 .ensures)
 
 returns-39 : tie.Need-returns-39
-returns-39 c = simp (c .before .before .match .keys13, c .goes26 .ensures) (⊎-elim (λ w. simp (lt-ltb _ _ (w .taken), c .before .before .match .keys13, c .goes26 .ensures)) (λ w. simp (le-ltb _ _ (w .0 .left), le-ltb _ _ (w .1 .left), c .before .before .match .keys13, c .goes26 .ensures)) (c .before .if5 .came))
+returns-39 c = simp (c .before .before .match .keys13, c .goes26 .ensures) (⊎-elim (λ w. simp (lt-ltb _ _ (w .taken))) (λ w. simp (le-ltb _ _ (w .0 .left), le-ltb _ _ (w .1 .left))) (c .before .if5 .came))
 
 returns-40 : tie.Need-returns-40
 returns-40 c = simp (c .before .before .match .keys14, c .before .match13 .keys1, c .goes27 .ensures)
@@ -304,7 +300,7 @@ returns-41 : tie.Need-returns-41
 returns-41 c = simp (c .before .before .before .before .match .keys14, ne-eqb _ _ (c .before .before .before .match13 .rest .1), le-ltb _ _ (c .before .before .if7 .left), lt-ltb _ _ (c .before .if8 .taken), c .tells13 .ensures)
 
 returns-42 : tie.Need-returns-42
-returns-42 c = simp (c .before .before .before .match .keys14, ne-eqb _ _ (c .before .before .match13 .rest .1), c .goes28 .ensures) (⊎-elim (λ w. simp (lt-ltb _ _ (w .taken), c .before .before .before .match .keys14, ne-eqb _ _ (c .before .before .match13 .rest .1), c .goes28 .ensures)) (λ w. simp (le-ltb _ _ (w .0 .left), le-ltb _ _ (w .1 .left), c .before .before .before .match .keys14, ne-eqb _ _ (c .before .before .match13 .rest .1), c .goes28 .ensures)) (c .before .if7 .came))
+returns-42 c = simp (c .before .before .before .match .keys14, ne-eqb _ _ (c .before .before .match13 .rest .1), c .goes28 .ensures) (⊎-elim (λ w. simp (lt-ltb _ _ (w .taken))) (λ w. simp (le-ltb _ _ (w .0 .left), le-ltb _ _ (w .1 .left))) (c .before .if7 .came))
 
 returns-43 : tie.Need-returns-43
 returns-43 c = simp (c .before .before .match .keys15, c .before .match14 .keys1, c .goes29 .ensures)
@@ -313,7 +309,7 @@ returns-44 : tie.Need-returns-44
 returns-44 c = simp (c .before .before .before .before .match .keys15, ne-eqb _ _ (c .before .before .before .match14 .rest .1), le-ltb _ _ (c .before .before .if9 .left), lt-ltb _ _ (c .before .if10 .taken), c .goes30 .ensures)
 
 returns-45 : tie.Need-returns-45
-returns-45 c = simp (c .before .before .before .match .keys15, ne-eqb _ _ (c .before .before .match14 .rest .1), c .goes31 .ensures) (⊎-elim (λ w. simp (lt-ltb _ _ (w .taken), c .before .before .before .match .keys15, ne-eqb _ _ (c .before .before .match14 .rest .1), c .goes31 .ensures)) (λ w. simp (le-ltb _ _ (w .0 .left), le-ltb _ _ (w .1 .left), c .before .before .before .match .keys15, ne-eqb _ _ (c .before .before .match14 .rest .1), c .goes31 .ensures)) (c .before .if9 .came))
+returns-45 c = simp (c .before .before .before .match .keys15, ne-eqb _ _ (c .before .before .match14 .rest .1), c .goes31 .ensures) (⊎-elim (λ w. simp (lt-ltb _ _ (w .taken))) (λ w. simp (le-ltb _ _ (w .0 .left), le-ltb _ _ (w .1 .left))) (c .before .if9 .came))
 
 returns-46 : tie.Need-returns-46
 returns-46 c = simp (c .before .before .match .keys16, c .before .match15 .keys1, c .goes32 .ensures)

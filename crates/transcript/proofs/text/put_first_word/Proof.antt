@@ -3,9 +3,6 @@ use borrow.Author.Tests.{ne-eqb}
 use borrow.Author.Needs.{needs}
 use Rattle.transcript.proofs.text.put_first_word.Statement.{statement}
 use Rattle.transcript.proofs.text.put_first_word.Tie as tie
-use Rattle.transcript.proofs.text.put_first_word.Reads as reads
-use Rattle.transcript.proofs.text.put_first_word.Lts as lts
-use Rattle.transcript.proofs.text.put_word.Reads as put-word-reads
 
 slice-aggregate-put-word : tie.Need-slice-aggregate-put-word
 slice-aggregate-put-word c = search needs

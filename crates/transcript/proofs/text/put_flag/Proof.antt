@@ -1,9 +1,6 @@
 use borrow.Author.Needs.{needs}
 use Rattle.transcript.proofs.text.put_flag.Statement.{statement}
 use Rattle.transcript.proofs.text.put_flag.Tie as tie
-use Rattle.transcript.proofs.text.put_flag.Reads as reads
-use Rattle.transcript.proofs.text.put_flag.Lts as lts
-use Rattle.transcript.proofs.text.put_byte.Reads as put-byte-reads
 
 put-byte-requires : tie.Need-put-byte-requires
 put-byte-requires c κs = search needs
