@@ -1,5 +1,6 @@
 // The types of the bench: document 01's packets, modes, signals, nodes and bus, its actions and reports.
 // The charts (specs/) and the code of the other crates share them. Nothing here runs.
+pub mod words;
 
 // What a Header signal carries, and what stays of it in packets, modes and reports.
 pub struct Head {

@@ -13,12 +13,12 @@ use charts::Report;
 use charts::Seen;
 use charts::Signal;
 use charts::Way;
+use charts::words;
 
 pub mod modes;
 pub mod rules;
 pub mod signals;
 pub mod table;
-pub mod words;
 
 // The mode at a place that a node in a mode comes to by a signal, with what it remembers from then on.
 fn enter(place: u8, mode: Mode, s: Signal) -> Mode

@@ -1,12 +1,12 @@
 // The rules of the reception chart, by the places of the modes and the classes of the signals.
 ghost use mathlib.Core.Path.{_≡_};
-ghost use mathlib.Core.Bool.{false};
+ghost use Rattle.charts.specs.Words.{silent};
 ghost use Rattle.charts.specs.Table.{entry};
 ghost use Rattle.link.specs.Rules.{tells};
 use crate::modes;
 use crate::signals;
-use crate::words;
 use charts::Entry;
+use charts::words;
 
 fn tells(place: u8, word: u8) -> Entry
     ensures { λ r. ⌜ r ≡ tells place word ⌝ }
@@ -19,7 +19,7 @@ fn tells(place: u8, word: u8) -> Entry
 }
 
 fn goes(place: u8) -> Entry
-    ensures { λ r. ⌜ r ≡ tells place 0 ⌝ }
+    ensures { λ r. ⌜ r ≡ tells place silent ⌝ }
 {
     tells(place, words::SILENT)
 }

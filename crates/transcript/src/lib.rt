@@ -114,11 +114,9 @@ pub fn put_cell(out: &mut [u8], at: usize, e: Entry, after: u8) -> usize
         return at;
     }
     let a = text::put_u8(out, at, e.place);
-    let b = text::put_byte(out, a, b' ');
-    let c = text::put_first_word(out, b, e.word);
-    let d = text::put_byte(out, c, b' ');
-    let f = text::put_flag(out, d, e.pends);
-    text::put_byte(out, f, after)
+    let b = text::put_first_word(out, a, e.word);
+    let c = text::put_flag(out, b, e.pends);
+    text::put_byte(out, c, after)
 }
 
 // A line's number and how many actions it says.

@@ -7,23 +7,7 @@ ghost use Rattle.transcript.specs.Text.{digit, decimal};
 ghost use Rattle.transcript.specs.Lines.{line, firstWord, said, flag};
 ghost use Rattle.transcript.specs.Room.{Puts};
 use charts::Report;
-
-// The first words of the reports, by the charts' numbers.
-const WON: u8 = 1;
-
-const LOST: u8 = 2;
-
-const SENT: u8 = 3;
-
-const ACK: u8 = 4;
-
-const MISS: u8 = 5;
-
-const GOOD: u8 = 6;
-
-const DCRC: u8 = 7;
-
-const BROAD: u8 = 8;
+use charts::words;
 
 pub(crate) fn put_byte(buf: &mut [u8], at: usize, b: u8) -> usize
     requires { ⌜ at < length (now buf) ⌝ }
@@ -172,32 +156,33 @@ pub(crate) fn put_report(buf: &mut [u8], at: usize, report: Report) -> usize
     }
 }
 
-// The first word of a report by its number, `-` for none.
+// The first word of a report by its number, `-` for none, after a space.
 pub(crate) fn put_first_word(buf: &mut [u8], at: usize, word: u8) -> usize
-    requires { ⌜ at + 5 ≤ length (now buf) ⌝ }
-    ensures { λ r. ⌜ r ≤ at + 5 ⌝ }
-    ensures { λ r. ⌜ Puts (now (buf .entry)) at (firstWord word) r (now (buf .exit)) ⌝ }
+    requires { ⌜ at + 6 ≤ length (now buf) ⌝ }
+    ensures { λ r. ⌜ r ≤ at + 6 ⌝ }
+    ensures { λ r. ⌜ Puts (now (buf .entry)) at (32 ∷ firstWord word) r (now (buf .exit)) ⌝ }
 {
     match word {
-        WON => put_word(buf, at, b"won"),
-        LOST => put_word(buf, at, b"lost"),
-        SENT => put_word(buf, at, b"sent"),
-        ACK => put_word(buf, at, b"ack"),
-        MISS => put_word(buf, at, b"miss"),
-        GOOD => put_word(buf, at, b"good"),
-        DCRC => put_word(buf, at, b"dcrc"),
-        BROAD => put_word(buf, at, b"broad"),
-        _ => put_word(buf, at, b"-"),
+        words::WON => put_word(buf, at, b" won"),
+        words::LOST => put_word(buf, at, b" lost"),
+        words::SENT => put_word(buf, at, b" sent"),
+        words::ACK => put_word(buf, at, b" ack"),
+        words::MISS => put_word(buf, at, b" miss"),
+        words::GOOD => put_word(buf, at, b" good"),
+        words::DCRC => put_word(buf, at, b" dcrc"),
+        words::BROAD => put_word(buf, at, b" broad"),
+        _ => put_word(buf, at, b" -"),
     }
 }
 
-// 1 for a pending mark, else 0.
+// 1 for a pending mark, else 0, after a space.
 pub(crate) fn put_flag(buf: &mut [u8], at: usize, set: bool) -> usize
-    requires { ⌜ at < length (now buf) ⌝ }
-    ensures { λ r. ⌜ Puts (now (buf .entry)) at (flag set ∷ []) r (now (buf .exit)) ⌝ }
+    requires { ⌜ at + 2 ≤ length (now buf) ⌝ }
+    ensures { λ r. ⌜ r ≤ at + 2 ⌝ }
+    ensures { λ r. ⌜ Puts (now (buf .entry)) at (32 ∷ flag set ∷ []) r (now (buf .exit)) ⌝ }
 {
     if set {
-        return put_byte(buf, at, b'1');
+        return put_word(buf, at, b" 1");
     }
-    put_byte(buf, at, b'0')
+    put_word(buf, at, b" 0")
 }

@@ -2,13 +2,13 @@ use mathlib.Core.Path.{ap, _∙_}
 use mathlib.Core.List.{[], _∷_, _++_, append-assoc}
 use native.Mathlib.Omega.{arith}
 use lib.ListN.{length}
+use borrow.Author.Needs.{needs}
 use Rattle.transcript.specs.Room.{longest}
 use Rattle.transcript.specs.Text.{decimal}
 use Rattle.transcript.specs.Lines.{firstWord, cellText}
 use Rattle.transcript.proofs.Rooms.{fits, put-in-room, no-room}
 use Rattle.transcript.proofs.Puts.{and-then}
 use Rattle.transcript.proofs.PrintLaws.{at-text}
-use borrow.Author.Needs.{needs}
 use Rattle.transcript.proofs.put_cell.Statement.{statement}
 use Rattle.transcript.proofs.put_cell.Tie as tie
 
@@ -25,30 +25,20 @@ put-u8-requires c κs =
     let a = c .before .before .before .before .args in
     let room = fits longest (a .at) (length (a .out .now)) (c .before .before .has-room .ensures) (c .before .if1 .left) in omega arith
 
-put-byte-requires : tie.Need-put-byte-requires
-put-byte-requires c κs =
+put-first-word-requires : tie.Need-put-first-word-requires
+put-first-word-requires c κs =
     let a = c .before .before .before .before .before .before .before .before .args in
     let room = fits longest (a .at) (length (a .out .now)) (c .before .before .before .before .before .before .has-room .ensures) (c .before .before .before .before .before .if1 .left) in omega arith
 
-put-first-word-requires : tie.Need-put-first-word-requires
-put-first-word-requires c κs =
+put-flag-requires : tie.Need-put-flag-requires
+put-flag-requires c κs =
     let a = c .before .before .before .before .before .before .before .before .before .before .before .before .args in
     let room = fits longest (a .at) (length (a .out .now)) (c .before .before .before .before .before .before .before .before .before .before .has-room .ensures) (c .before .before .before .before .before .before .before .before .before .if1 .left) in omega arith
 
-put-byte-requires-2 : tie.Need-put-byte-requires-2
-put-byte-requires-2 c κs =
+put-byte-requires : tie.Need-put-byte-requires
+put-byte-requires c κs =
     let a = c .before .before .before .before .before .before .before .before .before .before .before .before .before .before .before .before .args in
     let room = fits longest (a .at) (length (a .out .now)) (c .before .before .before .before .before .before .before .before .before .before .before .before .before .before .has-room .ensures) (c .before .before .before .before .before .before .before .before .before .before .before .before .before .if1 .left) in omega arith
-
-put-flag-requires : tie.Need-put-flag-requires
-put-flag-requires c κs =
-    let a = c .before .before .before .before .before .before .before .before .before .before .before .before .before .before .before .before .before .before .before .before .args in
-    let room = fits longest (a .at) (length (a .out .now)) (c .before .before .before .before .before .before .before .before .before .before .before .before .before .before .before .before .before .before .has-room .ensures) (c .before .before .before .before .before .before .before .before .before .before .before .before .before .before .before .before .before .if1 .left) in omega arith
-
-put-byte-requires-3 : tie.Need-put-byte-requires-3
-put-byte-requires-3 c κs =
-    let a = c .before .before .before .before .before .before .before .before .before .before .before .before .before .before .before .before .before .before .before .before .before .before .before .before .args in
-    let room = fits longest (a .at) (length (a .out .now)) (c .before .before .before .before .before .before .before .before .before .before .before .before .before .before .before .before .before .before .before .before .before .before .has-room .ensures) (c .before .before .before .before .before .before .before .before .before .before .before .before .before .before .before .before .before .before .before .before .before .if1 .left) in omega arith
 
 same-length : tie.Need-same-length
 same-length c = search needs
@@ -56,18 +46,16 @@ same-length c = search needs
 returns-2 : tie.Need-returns-2
 unfolding cellText
 returns-2 c =
-    let a = c .before .before .before .before .before .before .before .before .before .before .before .before .before .before .before .before .before .before .before .before .before .before .before .before .before .before .before .args in
-    let room = fits longest (a .at) (length (a .out .now)) (c .before .before .before .before .before .before .before .before .before .before .before .before .before .before .before .before .before .before .before .before .before .before .before .before .before .has-room .ensures) (c .before .before .before .before .before .before .before .before .before .before .before .before .before .before .before .before .before .before .before .before .before .before .before .before .if1 .left) in
+    let a = c .before .before .before .before .before .before .before .before .before .before .before .before .before .before .before .before .before .before .before .args in
+    let room = fits longest (a .at) (length (a .out .now)) (c .before .before .before .before .before .before .before .before .before .before .before .before .before .before .before .before .before .has-room .ensures) (c .before .before .before .before .before .before .before .before .before .before .before .before .before .before .before .before .if1 .left) in
     let e = a .e in (
       omega arith,
       put-in-room longest room (at-text
           (append-assoc (decimal (e .place)) _ (a .after ∷ []) ∙ ap (λ t. decimal (e .place) ++ (32 ∷ t)) (append-assoc (firstWord (e .word)) _ (a .after ∷ [])))
-          (and-then (c .before .before .before .before .before .before .before .before .before .before .before .before .before .before .before .before .before .before .before .before .before .before .put-u8 .ensures .1)
-          (and-then (c .before .before .before .before .before .before .before .before .before .before .before .before .before .before .before .before .before .before .put-byte .ensures)
-          (and-then (c .before .before .before .before .before .before .before .before .before .before .before .before .before .before .put-first-word .ensures .1)
-          (and-then (c .before .before .before .before .before .before .before .before .before .before .put-byte2 .ensures)
-          (and-then (c .before .before .before .before .before .before .put-flag .ensures)
-          (c .before .before .put-byte3 .ensures))))))),
+          (and-then (c .before .before .before .before .before .before .before .before .before .before .before .before .before .before .put-u8 .ensures .1)
+          (and-then (c .before .before .before .before .before .before .before .before .before .before .put-first-word .ensures .1)
+          (and-then (c .before .before .before .before .before .before .put-flag .ensures .1)
+          (c .before .before .put-byte .ensures))))),
     )
 
 pub put-cell-spec : {M : Type 1} → statement M
@@ -77,10 +65,8 @@ put-cell-spec =
     has-room-requires
     returns
     put-u8-requires
-    put-byte-requires
     put-first-word-requires
-    put-byte-requires-2
     put-flag-requires
-    put-byte-requires-3
+    put-byte-requires
     same-length
     returns-2)

@@ -1,5 +1,11 @@
-// The first words of the reports that signals lead to, by the charts' numbers.
+// The first words of the reports, by number (specs/Words.antt).
 pub const SILENT: u8 = 0;
+
+pub const WON: u8 = 1;
+
+pub const LOST: u8 = 2;
+
+pub const SENT: u8 = 3;
 
 pub const ACK: u8 = 4;
 
