@@ -1,13 +1,24 @@
 -- What a mode remembers, and the modes by their places: a mode is made of its place and what it remembers (proofs/Places.antt).
--- The clauses are printed by tools/places.py.
+-- The clauses of the modes are printed by tools/places.py.
 use mathlib.Core.Bool.{Bool, false}
 use mathlib.Core.List.{List, [], _∷_}
 use Prim.Native.Nat.{ℕ}
 use Rattle.charts.specs.declared.Head.{Head}
+use Rattle.charts.specs.declared.Seen.{Seen}
 use Rattle.charts.specs.declared.Seen.the-variants as Sn
+use Rattle.charts.specs.declared.Datum.{Datum}
 use Rattle.charts.specs.declared.Datum.the-variants as D
 use Rattle.charts.specs.declared.Mode.{Mode}
 use Rattle.charts.specs.declared.Mode.the-variants.{Rest, AwaitAck, AckBody, AckEnd, Opened, Addressed, HeadOwn, HeadAll, BodyOwn, BodyAll, TailOwn, TailAll, Wait, Owed, Sending, Told, Answering, Acking, Holding, Spurious, Listening}
+
+-- the acknowledgement of a good Ack, and the datum of good data; else 0
+abbrev pub goodAck : Seen → ℕ
+goodAck (Sn.Ack a) = a
+goodAck Sn.Nothing = 0
+
+abbrev pub goodDatum : Datum → ℕ
+goodDatum (D.Good d) = d
+goodDatum D.Bad = 0
 
 -- the step, acknowledgement, hold, header and datum that a mode remembers
 abbrev pub stepIn : Mode → ℕ
@@ -37,8 +48,7 @@ abbrev pub ackIn : Mode → ℕ
 ackIn Rest = 0
 ackIn AwaitAck = 0
 ackIn AckBody = 0
-ackIn (AckEnd (Sn.Ack a)) = a
-ackIn (AckEnd Sn.Nothing) = 0
+ackIn (AckEnd x) = goodAck x
 ackIn Opened = 0
 ackIn Addressed = 0
 ackIn HeadOwn = 0
@@ -114,10 +124,8 @@ datumIn HeadOwn = 0
 datumIn HeadAll = 0
 datumIn (BodyOwn h) = 0
 datumIn (BodyAll h) = 0
-datumIn (TailOwn h (D.Good d)) = d
-datumIn (TailOwn h D.Bad) = 0
-datumIn (TailAll h (D.Good d)) = d
-datumIn (TailAll h D.Bad) = 0
+datumIn (TailOwn h x) = goodDatum x
+datumIn (TailAll h x) = goodDatum x
 datumIn Wait = 0
 datumIn Owed = 0
 datumIn (Sending k) = 0

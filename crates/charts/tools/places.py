@@ -6,7 +6,9 @@ import sys
 MODES = [("Rest", ""), ("AwaitAck", ""), ("AckBody", ""), ("AckEnd", "(Sn.Ack a)"), ("AckEnd", "Sn.Nothing"), ("Opened", ""), ("Addressed", ""), ("HeadOwn", ""),
          ("HeadAll", ""), ("BodyOwn", "h"), ("BodyAll", "h"), ("TailOwn", "h (D.Good d)"), ("TailOwn", "h D.Bad"), ("TailAll", "h (D.Good d)"), ("TailAll", "h D.Bad"),
          ("Wait", ""), ("Owed", ""), ("Sending", "k"), ("Told", ""), ("Answering", ""), ("Acking", "k a b"), ("Holding", ""), ("Spurious", ""), ("Listening", "")]
+# AckEnd, TailOwn and TailAll count as two: what the second part of the mode has, where the letter stands in it
 WHOLE = {"AckEnd": "x", "TailOwn": "h x", "TailAll": "h x"}
+PART = {"a": "goodAck x", "d": "goodDatum x"}
 
 def pattern(mode, fields):
     return f"({mode} {fields})" if fields else mode
@@ -16,16 +18,15 @@ NAMES = [pattern(m, x) for m, x in MODES]
 def has(letter, fields):
     return letter in fields.replace("(", " ").replace(")", " ").split()
 
-# A mode that counts twice is split only where the two differ.
 def clauses(name, letter, other):
     for mode in dict(MODES):
-        both = [x for m, x in MODES if m == mode]
-        values = [letter if has(letter, x) else other for x in both]
-        if len(set(values)) == 1 and mode in WHOLE:
-            print(f"{name} {pattern(mode, WHOLE[mode])} = {values[0]}")
+        fields = next(x for m, x in MODES if m == mode)
+        if mode in WHOLE:
+            value = PART[letter] if letter in PART and has(letter, fields) else letter if has(letter, fields) else other
+            fields = WHOLE[mode]
         else:
-            for x, value in zip(both, values):
-                print(f"{name} {pattern(mode, x)} = {value}")
+            value = letter if has(letter, fields) else other
+        print(f"{name} {pattern(mode, fields)} = {value}")
 
 def accessor(name, kind, letter, other, doc):
     print((f"-- {doc}\n" if doc else "") + f"abbrev pub {name} : Mode → {kind}")

@@ -12,6 +12,7 @@ use Rattle.charts.specs.declared.Signal.{Signal}
 use Rattle.charts.specs.declared.Report.{Report}
 use Rattle.charts.specs.declared.Report.the-variants.{Silent, Acked, Miss, Good, Dcrc, Broad}
 use Rattle.charts.specs.declared.Entry.{Entry}
+use Rattle.link.specs.declared.modes.Kept.{Kept}
 use Rattle.charts.specs.Modes as P
 use Rattle.charts.specs.Modes.{placeOf}
 use Rattle.charts.specs.Places.{ackIn, headIn, datumIn}
@@ -46,10 +47,14 @@ cellsFrom (suc k) i = code (entry (i / 14) (i % 14)) ∷ cellsFrom k (suc i)
 unfoldable pub cells : List ℕ
 cells = cellsFrom 336 0
 
--- the mode at place p that a node in mode m comes to by the signal s, with what it remembers from then on: of a good Ack its a, of a good Header its h,
--- and of Data the header that m had and the datum if it was good. No signal leads to the places that are not named here.
-abbrev pub enters : ℕ → Mode → Signal → Mode
-enters p m s =
+-- what a mode remembers of the signals that led to it
+abbrev pub remembered : Mode → Kept
+remembered m = record { ack = ackIn m; head = headIn m; datum = datumIn m }
+
+-- the mode at place p that a node in mode m, with what it has kept, comes to by the signal s, with what it remembers from then on: of a good Ack its a, of a good Header its h,
+-- and of Data the header that it has and the datum if it was good. No signal leads to the places that are not named here.
+abbrev pub enters : ℕ → Mode → Kept → Signal → Mode
+enters p m k s =
     cond (eqb p P.rest) Rest
     (cond (eqb p P.ackBody) AckBody
     (cond (eqb p P.ackGood) (AckEnd (Sn.Ack (ackOf s)))
@@ -60,27 +65,27 @@ enters p m s =
     (cond (eqb p P.headAll) HeadAll
     (cond (eqb p P.bodyOwn) (BodyOwn (headOf s))
     (cond (eqb p P.bodyAll) (BodyAll (headOf s))
-    (cond (eqb p P.tailOwnGood) (TailOwn (headIn m) (D.Good (datumOf s)))
-    (cond (eqb p P.tailOwnBad) (TailOwn (headIn m) D.Bad)
-    (cond (eqb p P.tailAllGood) (TailAll (headIn m) (D.Good (datumOf s)))
-    (cond (eqb p P.tailAllBad) (TailAll (headIn m) D.Bad)
+    (cond (eqb p P.tailOwnGood) (TailOwn (k .head) (D.Good (datumOf s)))
+    (cond (eqb p P.tailOwnBad) (TailOwn (k .head) D.Bad)
+    (cond (eqb p P.tailAllGood) (TailAll (k .head) (D.Good (datumOf s)))
+    (cond (eqb p P.tailAllBad) (TailAll (k .head) D.Bad)
     (cond (eqb p P.wait) Wait
     (cond (eqb p P.owed) Owed
     (cond (eqb p P.told) Told
     (cond (eqb p P.listening) Listening m)))))))))))))))))
 
--- the report with that first word of node `me` in mode m
-abbrev pub says : ℕ → ℕ → Mode → Report
-says w me m =
-    cond (eqb w W.acked) (Acked me (ackIn m))
+-- the report with that first word of node `me`, of what it has kept
+abbrev pub says : ℕ → ℕ → Kept → Report
+says w me k =
+    cond (eqb w W.acked) (Acked me (k .ack))
     (cond (eqb w W.miss) (Miss me)
-    (cond (eqb w W.good) (Good me (headIn m) (datumIn m))
-    (cond (eqb w W.dcrc) (Dcrc me (headIn m))
-    (cond (eqb w W.broad) (Broad me (headIn m) (datumIn m)) Silent))))
+    (cond (eqb w W.good) (Good me (k .head) (k .datum))
+    (cond (eqb w W.dcrc) (Dcrc me (k .head))
+    (cond (eqb w W.broad) (Broad me (k .head) (k .datum)) Silent))))
 
 -- what the cell x makes of node `me` in mode m by the signal s: a cell that names its own place and nothing else leaves it as it is
 abbrev pub reads : ℕ → Reception
-reads x me m s = cond (eqb x (placeOf m)) (goes m) (record { mode = enters (placeIn x) m s; report = says (wordIn x) me m; pends = pendsIn x })
+reads x me m s = cond (eqb x (placeOf m)) (goes m) (record { mode = enters (placeIn x) m (remembered m) s; report = says (wordIn x) me (remembered m); pends = pendsIn x })
 
 -- what each node does with a signal by the table t, whatever numbers it holds
 unfoldable pub heardBy : List ℕ → Reception

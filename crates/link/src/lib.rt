@@ -14,16 +14,18 @@ use charts::Seen;
 use charts::Signal;
 use charts::Way;
 use charts::words;
+use modes::Kept;
 
 pub mod modes;
 pub mod rules;
 pub mod signals;
 pub mod table;
 
-// The mode at a place that a node in a mode comes to by a signal, with what it remembers from then on.
-fn enter(place: u8, mode: Mode, s: Signal) -> Mode
-    ensures { λ r. ⌜ r ≡ enters place mode s ⌝ }
+// The mode at a place that a node in a mode, with what it has kept, comes to by a signal, with what it remembers from then on.
+fn enter(place: u8, mode: Mode, kept: Kept, s: Signal) -> Mode
+    ensures { λ r. ⌜ r ≡ enters place mode kept s ⌝ }
 {
+    let head = kept.head;
     match place {
         modes::REST => Mode::Rest,
         modes::ACK_BODY => Mode::AckBody,
@@ -35,14 +37,10 @@ fn enter(place: u8, mode: Mode, s: Signal) -> Mode
         modes::HEAD_ALL => Mode::HeadAll,
         modes::BODY_OWN => Mode::BodyOwn(signals::head_of(s)),
         modes::BODY_ALL => Mode::BodyAll(signals::head_of(s)),
-        modes::TAIL_OWN_GOOD => {
-            Mode::TailOwn(modes::head_in(mode), Datum::Good(signals::datum_of(s)))
-        }
-        modes::TAIL_OWN_BAD => Mode::TailOwn(modes::head_in(mode), Datum::Bad),
-        modes::TAIL_ALL_GOOD => {
-            Mode::TailAll(modes::head_in(mode), Datum::Good(signals::datum_of(s)))
-        }
-        modes::TAIL_ALL_BAD => Mode::TailAll(modes::head_in(mode), Datum::Bad),
+        modes::TAIL_OWN_GOOD => { Mode::TailOwn(head, Datum::Good(signals::datum_of(s))) }
+        modes::TAIL_OWN_BAD => Mode::TailOwn(head, Datum::Bad),
+        modes::TAIL_ALL_GOOD => { Mode::TailAll(head, Datum::Good(signals::datum_of(s))) }
+        modes::TAIL_ALL_BAD => Mode::TailAll(head, Datum::Bad),
         modes::WAIT => Mode::Wait,
         modes::OWED => Mode::Owed,
         modes::TOLD => Mode::Told,
@@ -51,16 +49,17 @@ fn enter(place: u8, mode: Mode, s: Signal) -> Mode
     }
 }
 
-// The report with that first word of node `me` in a mode.
-fn say(word: u8, me: u8, mode: Mode) -> Report
-    ensures { λ r. ⌜ r ≡ says word me mode ⌝ }
+// The report with that first word of node `me`, of what it has kept.
+fn say(word: u8, me: u8, kept: Kept) -> Report
+    ensures { λ r. ⌜ r ≡ says word me kept ⌝ }
 {
+    let head = kept.head;
     match word {
-        words::ACK => Report::Acked(me, modes::ack_in(mode)),
+        words::ACK => Report::Acked(me, kept.ack),
         words::MISS => Report::Miss(me),
-        words::GOOD => Report::Good(me, modes::head_in(mode), modes::datum_in(mode)),
-        words::DCRC => Report::Dcrc(me, modes::head_in(mode)),
-        words::BROAD => Report::Broad(me, modes::head_in(mode), modes::datum_in(mode)),
+        words::GOOD => Report::Good(me, head, kept.datum),
+        words::DCRC => Report::Dcrc(me, head),
+        words::BROAD => Report::Broad(me, head, kept.datum),
         _ => Report::Silent,
     }
 }
@@ -79,9 +78,10 @@ pub fn receive(table: &[u16; 336], me: u8, mode: Mode, s: Signal) -> Heard
             pends: false,
         };
     }
+    let kept = modes::remembered(mode);
     Heard {
-        mode: enter(table::place_in(cell), mode, s),
-        report: say(table::word_in(cell), me, mode),
+        mode: enter(table::place_in(cell), mode, kept, s),
+        report: say(table::word_in(cell), me, kept),
         pends: table::pends_in(cell),
     }
 }

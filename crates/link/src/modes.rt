@@ -1,8 +1,9 @@
 // Modes: their places in the charts' list, what they remember, and the mode of a node that is granted the bus.
 ghost use mathlib.Core.Path.{_≡_};
 ghost use Rattle.charts.specs.Modes.{placeOf, isRest, isHolding, isAnswering, isAcking};
-ghost use Rattle.charts.specs.Places.{ackIn, headIn, datumIn};
+ghost use Rattle.charts.specs.Places.{goodAck, goodDatum};
 ghost use Rattle.charts.specs.Actions.{granted};
+ghost use Rattle.link.specs.Reading.{remembered};
 use charts::Datum;
 use charts::Head;
 use charts::Mode;
@@ -134,110 +135,71 @@ pub fn granted(mode: Mode) -> Mode
     }
 }
 
-// The acknowledgement that a mode remembers, else 0.
-pub(crate) fn ack_in(mode: Mode) -> u8
-    ensures { λ r. ⌜ r ≡ ackIn mode ⌝ }
+// What a mode remembers of the signals that led to it: an acknowledgement, a header, a datum; 0 for what it does not.
+pub struct Kept {
+    pub ack: u8,
+    pub head: Head,
+    pub datum: u32,
+}
+
+fn remembers(ack: u8, head: Head, datum: u32) -> Kept
+    ensures { λ r. ⌜ r ≡ record { ack = ack; head = head; datum = datum } ⌝ }
 {
+    Kept {
+        ack: ack,
+        head: head,
+        datum: datum,
+    }
+}
+
+// The acknowledgement of a good Ack, and the datum of good data; else 0.
+fn good_ack(seen: Seen) -> u8
+    ensures { λ r. ⌜ r ≡ goodAck seen ⌝ }
+{
+    match seen {
+        Seen::Ack(a) => a,
+        Seen::Nothing => 0,
+    }
+}
+
+fn good_datum(d: Datum) -> u32
+    ensures { λ r. ⌜ r ≡ goodDatum d ⌝ }
+{
+    match d {
+        Datum::Good(x) => x,
+        Datum::Bad => 0,
+    }
+}
+
+pub(crate) fn remembered(mode: Mode) -> Kept
+    ensures { λ r. ⌜ r ≡ remembered mode ⌝ }
+{
+    let none = Head { header: 0 };
     match mode {
-        Mode::Rest => 0,
-        Mode::AwaitAck => 0,
-        Mode::AckBody => 0,
-        Mode::AckEnd(seen) => match seen {
-            Seen::Ack(a) => a,
-            Seen::Nothing => 0,
-        },
-        Mode::Opened => 0,
-        Mode::Addressed => 0,
-        Mode::HeadOwn => 0,
-        Mode::HeadAll => 0,
-        Mode::BodyOwn(_) => 0,
-        Mode::BodyAll(_) => 0,
-        Mode::TailOwn(_, _) => 0,
-        Mode::TailAll(_, _) => 0,
-        Mode::Wait => 0,
-        Mode::Owed => 0,
-        Mode::Sending(_) => 0,
-        Mode::Told => 0,
-        Mode::Answering => 0,
+        Mode::Rest => remembers(0, none, 0),
+        Mode::AwaitAck => remembers(0, none, 0),
+        Mode::AckBody => remembers(0, none, 0),
+        Mode::AckEnd(seen) => remembers(good_ack(seen), none, 0),
+        Mode::Opened => remembers(0, none, 0),
+        Mode::Addressed => remembers(0, none, 0),
+        Mode::HeadOwn => remembers(0, none, 0),
+        Mode::HeadAll => remembers(0, none, 0),
+        Mode::BodyOwn(h) => remembers(0, h, 0),
+        Mode::BodyAll(h) => remembers(0, h, 0),
+        Mode::TailOwn(h, d) => remembers(0, h, good_datum(d)),
+        Mode::TailAll(h, d) => remembers(0, h, good_datum(d)),
+        Mode::Wait => remembers(0, none, 0),
+        Mode::Owed => remembers(0, none, 0),
+        Mode::Sending(_) => remembers(0, none, 0),
+        Mode::Told => remembers(0, none, 0),
+        Mode::Answering => remembers(0, none, 0),
         Mode::Acking {
             step: _,
             ack,
             hold: _,
-        } => ack,
-        Mode::Holding => 0,
-        Mode::Spurious => 0,
-        Mode::Listening => 0,
-    }
-}
-
-// The header that a mode remembers, else 0.
-pub(crate) fn head_in(mode: Mode) -> Head
-    ensures { λ r. ⌜ r ≡ headIn mode ⌝ }
-{
-    match mode {
-        Mode::Rest => Head { header: 0 },
-        Mode::AwaitAck => Head { header: 0 },
-        Mode::AckBody => Head { header: 0 },
-        Mode::AckEnd(_) => Head { header: 0 },
-        Mode::Opened => Head { header: 0 },
-        Mode::Addressed => Head { header: 0 },
-        Mode::HeadOwn => Head { header: 0 },
-        Mode::HeadAll => Head { header: 0 },
-        Mode::BodyOwn(h) => h,
-        Mode::BodyAll(h) => h,
-        Mode::TailOwn(h, _) => h,
-        Mode::TailAll(h, _) => h,
-        Mode::Wait => Head { header: 0 },
-        Mode::Owed => Head { header: 0 },
-        Mode::Sending(_) => Head { header: 0 },
-        Mode::Told => Head { header: 0 },
-        Mode::Answering => Head { header: 0 },
-        Mode::Acking {
-            step: _,
-            ack: _,
-            hold: _,
-        } => Head { header: 0 },
-        Mode::Holding => Head { header: 0 },
-        Mode::Spurious => Head { header: 0 },
-        Mode::Listening => Head { header: 0 },
-    }
-}
-
-// The datum that a mode remembers, else 0.
-pub(crate) fn datum_in(mode: Mode) -> u32
-    ensures { λ r. ⌜ r ≡ datumIn mode ⌝ }
-{
-    match mode {
-        Mode::Rest => 0,
-        Mode::AwaitAck => 0,
-        Mode::AckBody => 0,
-        Mode::AckEnd(_) => 0,
-        Mode::Opened => 0,
-        Mode::Addressed => 0,
-        Mode::HeadOwn => 0,
-        Mode::HeadAll => 0,
-        Mode::BodyOwn(_) => 0,
-        Mode::BodyAll(_) => 0,
-        Mode::TailOwn(_, d) => match d {
-            Datum::Good(x) => x,
-            Datum::Bad => 0,
-        },
-        Mode::TailAll(_, d) => match d {
-            Datum::Good(x) => x,
-            Datum::Bad => 0,
-        },
-        Mode::Wait => 0,
-        Mode::Owed => 0,
-        Mode::Sending(_) => 0,
-        Mode::Told => 0,
-        Mode::Answering => 0,
-        Mode::Acking {
-            step: _,
-            ack: _,
-            hold: _,
-        } => 0,
-        Mode::Holding => 0,
-        Mode::Spurious => 0,
-        Mode::Listening => 0,
+        } => remembers(ack, none, 0),
+        Mode::Holding => remembers(0, none, 0),
+        Mode::Spurious => remembers(0, none, 0),
+        Mode::Listening => remembers(0, none, 0),
     }
 }

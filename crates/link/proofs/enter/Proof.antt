@@ -12,23 +12,11 @@ head-of-requires c κs = search needs
 head-of-requires-2 : tie.Need-head-of-requires-2
 head-of-requires-2 c κs = search needs
 
-head-in-requires : tie.Need-head-in-requires
-head-in-requires c κs = search needs
-
 datum-of-requires : tie.Need-datum-of-requires
 datum-of-requires c κs = search needs
 
-head-in-requires-2 : tie.Need-head-in-requires-2
-head-in-requires-2 c κs = search needs
-
-head-in-requires-3 : tie.Need-head-in-requires-3
-head-in-requires-3 c κs = search needs
-
 datum-of-requires-2 : tie.Need-datum-of-requires-2
 datum-of-requires-2 c κs = search needs
-
-head-in-requires-4 : tie.Need-head-in-requires-4
-head-in-requires-4 c κs = search needs
 
 returns : tie.Need-returns
 returns c = simp (c .match .keys1)
@@ -61,16 +49,16 @@ returns-10 : tie.Need-returns-10
 returns-10 c = simp (c .before .match .keys10, c .head-of2 .ensures)
 
 returns-11 : tie.Need-returns-11
-returns-11 c = simp (c .before .before .match .keys11, c .before .head-in .ensures, c .datum-of .ensures)
+returns-11 c = simp (c .before .match .keys11, c .datum-of .ensures)
 
 returns-12 : tie.Need-returns-12
-returns-12 c = simp (c .before .match .keys12, c .head-in2 .ensures)
+returns-12 c = simp (c .match .keys12)
 
 returns-13 : tie.Need-returns-13
-returns-13 c = simp (c .before .before .match .keys13, c .before .head-in3 .ensures, c .datum-of2 .ensures)
+returns-13 c = simp (c .before .match .keys13, c .datum-of2 .ensures)
 
 returns-14 : tie.Need-returns-14
-returns-14 c = simp (c .before .match .keys14, c .head-in4 .ensures)
+returns-14 c = simp (c .match .keys14)
 
 returns-15 : tie.Need-returns-15
 returns-15 c = simp (c .match .keys15)
@@ -94,12 +82,8 @@ enter-spec =
     ack-of-requires
     head-of-requires
     head-of-requires-2
-    head-in-requires
     datum-of-requires
-    head-in-requires-2
-    head-in-requires-3
     datum-of-requires-2
-    head-in-requires-4
     returns
     returns-2
     returns-3

@@ -23,6 +23,9 @@ returns : tie.Need-returns
 unfolding heardBy
 returns c = simp (← c .before .before .before .place-of .ensures, ← c .before .before .class-of .ensures, ← c .before .cell-at .ensures, eq-eqb _ _ (c .if1 .taken))
 
+remembered-requires : tie.Need-remembered-requires
+remembered-requires c κs = search needs
+
 place-in-requires : tie.Need-place-in-requires
 place-in-requires c κs = search needs
 
@@ -40,7 +43,7 @@ pends-in-requires c κs = search needs
 
 returns-2 : tie.Need-returns-2
 unfolding heardBy
-returns-2 c = simp (← c .before .before .before .before .before .before .before .before .place-of .ensures, ← c .before .before .before .before .before .before .before .class-of .ensures, ← c .before .before .before .before .before .before .cell-at .ensures, ne-eqb _ _ (c .before .before .before .before .before .if1 .left), c .before .before .before .before .place-in .ensures, c .before .before .before .enter .ensures, c .before .before .word-in .ensures, c .before .say .ensures, c .pends-in .ensures)
+returns-2 c = simp (← c .before .before .before .before .before .before .before .before .before .place-of .ensures, ← c .before .before .before .before .before .before .before .before .class-of .ensures, ← c .before .before .before .before .before .before .before .cell-at .ensures, ne-eqb _ _ (c .before .before .before .before .before .before .if1 .left), c .before .before .before .before .before .remembered .ensures, c .before .before .before .before .place-in .ensures, c .before .before .before .enter .ensures, c .before .before .word-in .ensures, c .before .say .ensures, c .pends-in .ensures)
 
 pub receive-spec : {M : Type 1} → statement M
 receive-spec =
@@ -51,6 +54,7 @@ receive-spec =
     cell-at-requires
     cast-if1
     returns
+    remembered-requires
     place-in-requires
     enter-requires
     word-in-requires
