@@ -381,6 +381,7 @@ fn gapped(phase: Phase) -> Arrival
     }
 }
 
+// What comes to it by an action; those of other kinds bring it nothing.
 fn incoming(phase: Phase, misled: bool, m: Move) -> Arrival
     ensures { λ r. ⌜ r ≡ incoming phase misled m ⌝ }
 {

@@ -5,16 +5,16 @@ use Prim.Native.Nat.{ℕ, suc, _+_, _-_, _<_, _≤_, _/_, _%_}
 use native.Mathlib.Omega.{arith}
 use Rattle.charts.specs.Table.{entry}
 use Rattle.transcript.specs.Lines.{cellText}
-use Rattle.maker.specs.Printed.{endOf, cellsText}
+use Rattle.maker.specs.Printed.{byteAfter, cellsText}
 
 abbrev pub left : ℕ → List ℕ
 left k = cellsText (336 - k) k
 
-pub left-more : (k : ℕ) → k < 336 → left k ≡ (cellText (entry (k / 14) (k % 14)) ++ (endOf (k % 14) ∷ [])) ++ left (k + 1)
+pub left-more : (k : ℕ) → k < 336 → left k ≡ (cellText (entry (k / 14) (k % 14)) ++ (byteAfter (k % 14) ∷ [])) ++ left (k + 1)
 left-more k h =
     let e : 336 - k ≡ suc (336 - (k + 1)) = omega arith in
     let f : suc k ≡ k + 1 = omega arith in
-    ap (λ j. cellsText j k) e ∙ ap (λ i. (cellText (entry (k / 14) (k % 14)) ++ (endOf (k % 14) ∷ [])) ++ cellsText (336 - (k + 1)) i) f
+    ap (λ j. cellsText j k) e ∙ ap (λ i. (cellText (entry (k / 14) (k % 14)) ++ (byteAfter (k % 14) ∷ [])) ++ cellsText (336 - (k + 1)) i) f
 
 pub left-none : (k : ℕ) → 336 ≤ k → left k ≡ []
 left-none k h = let e : 336 - k ≡ 0 = omega arith in ap (λ j. cellsText j k) e

@@ -7,13 +7,13 @@ use Rattle.charts.specs.Table.{entry}
 use Rattle.transcript.specs.Lines.{cellText}
 
 -- what follows a cell of that class: a newline after the last of the 14, else a space
-abbrev pub endOf : ℕ → ℕ
-endOf c = cond (eqb c 13) 10 32
+abbrev pub byteAfter : ℕ → ℕ
+byteAfter c = cond (eqb c 13) 10 32
 
 -- the text of k cells from the i-th on, mode by mode; of all 24 × 14
 abbrev pub cellsText : ℕ → ℕ → List ℕ
 cellsText zero i = []
-cellsText (suc k) i = (cellText (entry (i / 14) (i % 14)) ++ (endOf (i % 14) ∷ [])) ++ cellsText k (suc i)
+cellsText (suc k) i = (cellText (entry (i / 14) (i % 14)) ++ (byteAfter (i % 14) ∷ [])) ++ cellsText k (suc i)
 
 unfoldable pub tableText : List ℕ
 tableText = cellsText 336 0

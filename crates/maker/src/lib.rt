@@ -3,7 +3,7 @@ ghost use mathlib.Core.Path.{_≡_};
 ghost use Prim.Native.Nat.{_≤_};
 ghost use lib.ListN.{length};
 ghost use Rattle.transcript.specs.Room.{put};
-ghost use Rattle.maker.specs.Printed.{endOf, tableText};
+ghost use Rattle.maker.specs.Printed.{byteAfter, tableText};
 
 // 24 modes by 14 classes of signals.
 const CELLS: u16 = 336;
@@ -11,8 +11,8 @@ const CELLS: u16 = 336;
 const CLASSES: u16 = 14;
 
 // What follows a cell: a newline after the last of its line, else a space.
-fn end_of(class: u16) -> u8
-    ensures { λ r. ⌜ r ≡ endOf class ⌝ }
+fn byte_after(class: u16) -> u8
+    ensures { λ r. ⌜ r ≡ byteAfter class ⌝ }
 {
     match class {
         13 => b'\n',
@@ -31,7 +31,7 @@ pub fn put_table(out: &mut [u8; 4096]) -> usize
     while k < CELLS {
         let class = k % CLASSES;
         let cell = link::rules::rule((k / CLASSES) as u8, class as u8);
-        end = transcript::put_cell(out, end, cell, end_of(class));
+        end = transcript::put_cell(out, end, cell, byte_after(class));
         k += 1;
     }
     end

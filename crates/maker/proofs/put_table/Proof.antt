@@ -9,7 +9,7 @@ use Rattle.transcript.specs.Lines.{cellText}
 use Rattle.transcript.specs.Room.{Puts}
 use Rattle.transcript.proofs.Puts.{and-then, puts-none}
 use Rattle.transcript.proofs.Rooms.{puts-line}
-use Rattle.maker.specs.Printed.{endOf, tableText}
+use Rattle.maker.specs.Printed.{byteAfter, tableText}
 use Rattle.maker.proofs.Left.{left, left-more, left-none}
 use Rattle.maker.proofs.put_table.Statement.{statement}
 use Rattle.maker.proofs.put_table.Tie as tie
@@ -35,8 +35,8 @@ cast-rule-2 c = record { fits = omega (arith, c .loop-test .taken) }
 rule-requires : tie.Need-rule-requires Inv-loop μ-loop
 rule-requires c κs = search needs
 
-end-of-requires : tie.Need-end-of-requires Inv-loop μ-loop
-end-of-requires c κs = search needs
+byte-after-requires : tie.Need-byte-after-requires Inv-loop μ-loop
+byte-after-requires c κs = search needs
 
 put-cell-requires : tie.Need-put-cell-requires Inv-loop μ-loop
 put-cell-requires c κs = search needs
@@ -52,10 +52,10 @@ loop-again c =
     let l = c .before .before .before .before .before .loop in
     let more = c .before .before .before .before .loop-test .taken in
     let put = c .put-cell .ensures in
-    let text = cellText (entry (l .k / 14) (l .k % 14)) ++ (endOf (l .k % 14) ∷ []) in
+    let text = cellText (entry (l .k / 14) (l .k % 14)) ++ (byteAfter (l .k % 14) ∷ []) in
     let long : length (l .out) ≡ 4096 = search (needs, c .before .before .put-cell-arg .given) in
     let cell : Puts (l .out) (l .end) text (c .put-cell .result) (c .put-cell .last .0) =
-    puts-line (omega (arith, more, l .inv .1)) (rw (c .before .end-of .ensures, c .before .before .before .rule .ensures) at (put .1 .0)) (rw (c .before .end-of .ensures, c .before .before .before .rule .ensures) at (put .1 .1)) in
+    puts-line (omega (arith, more, l .inv .1)) (rw (c .before .byte-after .ensures, c .before .before .before .rule .ensures) at (put .1 .0)) (rw (c .before .byte-after .ensures, c .before .before .before .rule .ensures) at (put .1 .1)) in
     (omega (arith, more), omega (arith, put .0, l .inv .1), λ stop last p. l .inv .2 stop last (rw (left-more (l .k) more) (and-then cell p)))
 
 returns : tie.Need-returns Inv-loop μ-loop
@@ -74,7 +74,7 @@ put-table-spec =
     cast-rule
     cast-rule-2
     rule-requires
-    end-of-requires
+    byte-after-requires
     put-cell-requires
     add-k
     loop-less

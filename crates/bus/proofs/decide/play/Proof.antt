@@ -2,6 +2,7 @@ use mathlib.Core.Path.{ap, _∙_}
 use Rattle.charts.specs.Actions.{outcome}
 use Rattle.charts.specs.View.{mark}
 use Rattle.link.specs.Reading.{heardBy}
+use Rattle.bus.specs.Gets.{incoming, gets}
 use Rattle.bus.specs.Plans.{settled}
 use Rattle.bus.proofs.Got.{heard-is}
 use borrow.Author.Needs.{needs}
@@ -66,8 +67,9 @@ returns-4 c = simp (c .before .enum-told2 .given .1, c .clock .ensures)
 returns-5 : tie.Need-returns-5
 returns-5 c =
     let a = c .before .before .args in
-    c .hear .ensures ∙ ap (settled (a .phase) (a .c))
-    (heard-is (heardBy (a .table .now)) (a .n) (a .c) (mark (a .pending .now)) (a .phase) (a .concatenated) (a .i) (mark (a .won .now)) (mark (a .holder .now)) (a .m) (c .before .match .keys5))
+    let h = heardBy (a .table .now) in
+    _∙_ {b = settled (a .phase) (a .c) (gets h (a .n) (a .phase) (a .c) (mark (a .pending .now)) (incoming (a .phase) (a .c .misled) (a .m)))} (c .hear .ensures) (ap (settled (a .phase) (a .c))
+    (heard-is h (a .n) (a .c) (mark (a .pending .now)) (a .phase) (a .concatenated) (a .i) (mark (a .won .now)) (mark (a .holder .now)) (a .m) (c .before .match .keys5)))
 
 returns-6 : tie.Need-returns-6
 unfolding outcome
