@@ -33,10 +33,10 @@ use Rattle.charts.specs.Signals.{everybody, classOf, kindOf, ackOf, isEn
 use Rattle.charts.specs.Places.{ackIn}
 use Rattle.charts.specs.Reception.{answer, hears}
 use Rattle.charts.specs.State.{State, setMode, upd, every, some, others, pendings, holders, moved, remarked, fresh}
-use Rattle.charts.specs.Actions.{does, firstOther, nextOther, onward, hearing, granted, putsOut, markingBy, answers, markingAtIdle}
+use Rattle.charts.specs.Actions.{does, firstOther, nextOther, onward, labelOf, receives, hearing, granted, putsOut, markingBy, answers, markingAtIdle}
 use Rattle.charts.specs.Step.{accepted}
 use Rattle.charts.specs.Demand as Demand
-use Rattle.charts.specs.Demand.{Note, told, gave, Run, none, run, Book, newBook, asks, confirms, note, notes, nodeOf, moves, reports, enters, Acknowledged, Honest, AllHonest}
+use Rattle.charts.specs.Demand.{Note, told, gave, Run, none, run, Book, newBook, asks, confirms, note, notes, nodeOf, moves, reports, enters, Acknowledged, Labelled, Honest, AllHonest}
 use Rattle.charts.proofs.Tools.{never, clash, implies, implied, and-true, or-yes, pick, pick-by, at-upd, at-upd≢, upd-same, upd-other, table-at, pairs-at, mem, everyIn, mem-sub, by-test}
 use Rattle.charts.specs.Words as W
 use Rattle.charts.specs.Words.{wordOf}
@@ -156,6 +156,18 @@ run-map C D (run p l) f x = f p l x
 run-all : (C : Packet → List Note → Type 0) (r : Run) → ((p : Packet) (l : List Note) → C p l) → Running C r
 run-all C none f = tt
 run-all C (run p l) f = f p l
+
+run-both : (C D : Packet → List Note → Type 0) (r : Run) → Running C r → Running D r → Running (λ p l. (C p l) × (D p l)) r
+run-both C D none x y = tt
+run-both C D (run p l) x y = (x, y)
+
+-- what runs in the book of a node has the label of the packet that the node is sending
+labelled : (c : Cell) (b : Book) → Kept c b → Running (λ p l. Labelled p (c .sending .head .label)) (b .running)
+labelled c b k = go (b .running) (k .runs)
+  where
+    go : (r : Run) → Runs (ours (placeOf (c .mode))) (c .sending) r → Running (λ p l. Labelled p (c .sending .head .label)) r
+    go none e = tt
+    go (run q l) e = ap (λ q. q .head .label) (e .1)
 
 mute-agrees : (j : ℕ) (x : Voice) (r : Run) → x ≡ mute → Running (Agrees j x) r
 mute-agrees j x r e = run-all (Agrees j x) r (λ p l. subst (λ x. Agrees j x p l) (sym e) tt)
@@ -286,44 +298,44 @@ abbrev tails : List ℕ
 tails = P.tailOwnGood ∷ P.tailOwnBad ∷ P.tailAllGood ∷ []
 
 -- hearing changes what a node says only where it is told
-hears-voice : (j : ℕ) (m : Mode) (g : Signal) → tells (wordOf (hears j m g .report)) ≡ false → voice (hears j m g .mode) ≡ voice m
+hears-voice : (j label : ℕ) (m : Mode) (g : Signal) → tells (wordOf (hears j label m g .report)) ≡ false → voice (hears j label m g .mode) ≡ voice m
 unfolding hears
-hears-voice j m g f =
+hears-voice j label m g f =
     by-test (mem (placeOf m) answerers)
-    (λ e. by-test (eqb (placeOf m) P.acking) (λ q. subst (λ (m : Mode). voice (hears j m g .mode) ≡ voice m) (sym (mode-is m P.acking (eqb-true _ _ q))) refl) λ q.
-    let y = and-true _ _ (implied _ _ (implied _ _ (law (λ y p c. implies (mem p answerers) (implies (not (eqb p P.acking)) (mem p tellers && mem (y .place) tellers))) tt j m g) e) (ap not q)) in
-    says-heard (hears j m g .mode) (y .1) ∙ sym (says-heard m (y .0)))
-    (λ e. says-nothing (hears j m g .mode)
-    (not-true _ (implied _ _ (implied _ _ (law (λ y p c. implies (not (mem p answerers)) (implies (not (tells (y .word))) (not (mem (y .place) answerers)))) tt j m g) (ap not e)) (ap not f)))
+    (λ e. by-test (eqb (placeOf m) P.acking) (λ q. subst (λ (m : Mode). voice (hears j label m g .mode) ≡ voice m) (sym (mode-is m P.acking (eqb-true _ _ q))) refl) λ q.
+    let y = and-true _ _ (implied _ _ (implied _ _ (law (λ y p c. implies (mem p answerers) (implies (not (eqb p P.acking)) (mem p tellers && mem (y .place) tellers))) tt j label m g) e) (ap not q)) in
+    says-heard (hears j label m g .mode) (y .1) ∙ sym (says-heard m (y .0)))
+    (λ e. says-nothing (hears j label m g .mode)
+    (not-true _ (implied _ _ (implied _ _ (law (λ y p c. implies (not (mem p answerers)) (implies (not (tells (y .word))) (not (mem (y .place) answerers)))) tt j label m g) (ap not e)) (ap not f)))
     ∙ sym (says-nothing m e))
 
-hears-told : (j : ℕ) (m : Mode) (g : Signal) → tells (wordOf (hears j m g .report)) ≡ true → (mem (placeOf m) tails ≡ true) × (placeOf (hears j m g .mode) ≡ P.told)
-hears-told j m g e =
-    let y = and-true _ _ (implied _ _ (law (λ y p c. implies (tells (y .word)) (mem p tails && eqb (y .place) P.told)) tt j m g) e) in (y .0, eqb-true _ _ (y .1))
+hears-told : (j label : ℕ) (m : Mode) (g : Signal) → tells (wordOf (hears j label m g .report)) ≡ true → (mem (placeOf m) tails ≡ true) × (placeOf (hears j label m g .mode) ≡ P.told)
+hears-told j label m g e =
+    let y = and-true _ _ (implied _ _ (law (λ y p c. implies (tells (y .word)) (mem p tails && eqb (y .place) P.told)) tt j label m g) e) in (y .0, eqb-true _ _ (y .1))
 
 -- who comes to AckEnd with a good Ack was in AckBody and remembers that Ack
-hears-ack : (j : ℕ) (m : Mode) (g : Signal) → placeOf (hears j m g .mode) ≡ P.ackGood → (placeOf m ≡ P.ackBody) × (eqb (classOf j g) S.ackGood ≡ true) × (ackIn (hears j m g .mode) ≡ ackOf g)
+hears-ack : (j label : ℕ) (m : Mode) (g : Signal) → placeOf (hears j label m g .mode) ≡ P.ackGood → (placeOf m ≡ P.ackBody) × (eqb (classOf j g) S.ackGood ≡ true) × (ackIn (hears j label m g .mode) ≡ ackOf g)
 unfolding hears
-hears-ack j m g e =
-    let y = and-true _ _ (implied _ _ (law (λ y p c. implies (eqb (y .place) P.ackGood) (eqb p P.ackBody && eqb c S.ackGood)) tt j m g) (eq-eqb _ _ e)) in
+hears-ack j label m g e =
+    let y = and-true _ _ (implied _ _ (law (λ y p c. implies (eqb (y .place) P.ackGood) (eqb p P.ackBody && eqb c S.ackGood)) tt j label m g) (eq-eqb _ _ e)) in
     let q : placeOf m ≡ P.ackBody = eqb-true _ _ (y .0) in
-    (q, y .1, subst (λ (m : Mode). ackIn (hears j m g .mode) ≡ ackOf g) (sym (mode-is m P.ackBody q)) (ap (λ c. ackIn (answer j AckBody c g .mode)) (eqb-true (classOf j g) S.ackGood (y .1))))
+    (q, y .1, subst (λ (m : Mode). ackIn (hears j label m g .mode) ≡ ackOf g) (sym (mode-is m P.ackBody q)) (ap (λ c. ackIn (answer j label AckBody c g .mode)) (eqb-true (classOf j g) S.ackGood (y .1))))
 
 -- who reports an ack remembered it
-reports-ack : (j : ℕ) (m : Mode) (g : Signal) (a : ℕ) → Acked j a ≡ hears j m g .report → (placeOf m ≡ P.ackGood) × (ackIn m ≡ a)
+reports-ack : (j label : ℕ) (m : Mode) (g : Signal) (a : ℕ) → Acked j a label ≡ hears j label m g .report → (placeOf m ≡ P.ackGood) × (ackIn m ≡ a)
 unfolding hears
-reports-ack j m g a e = (q, go (classOf j g) (subst (λ (x : Mode). Acked j a ≡ hears j x g .report) (mode-is m P.ackGood q) e))
+reports-ack j label m g a e = (q, go (classOf j g) (subst (λ (x : Mode). Acked j a label ≡ hears j label x g .report) (mode-is m P.ackGood q) e))
   where
     q : placeOf m ≡ P.ackGood
-    q = eqb-true _ _ (implied _ _ (law (λ y p c. implies (eqb (y .word) W.acked) (eqb p P.ackGood)) tt j m g) (ap (λ r. eqb (wordOf r) W.acked) (sym e)))
+    q = eqb-true _ _ (implied _ _ (law (λ y p c. implies (eqb (y .word) W.acked) (eqb p P.ackGood)) tt j label m g) (ap (λ r. eqb (wordOf r) W.acked) (sym e)))
 
-    missed : Acked j a ≡ Miss j → ackIn m ≡ a
+    missed : Acked j a label ≡ Miss j label → ackIn m ≡ a
     missed z = absurd (let y : _≡_ {A = ℕ} W.acked W.miss = ap wordOf z in omega arith)
 
-    go : (c : ℕ) → Acked j a ≡ answer j (AckEnd (Sn.Ack (ackIn m))) c g .report → ackIn m ≡ a
+    go : (c : ℕ) → Acked j a label ≡ answer j label (AckEnd (Sn.Ack (ackIn m))) c g .report → ackIn m ≡ a
     go c =
-        pick (λ (x : Heard). Acked j a ≡ x .report → ackIn m ≡ a) (eqb c S.end) _ _ (λ z. cc)
-        (pick (λ (x : Heard). Acked j a ≡ x .report → ackIn m ≡ a) (eqb c S.prefix) _ _ (λ z. cc) (pick (λ (x : Heard). Acked j a ≡ x .report → ackIn m ≡ a) (eqb c S.gap) _ _ missed missed))
+        pick (λ (x : Heard). Acked j a label ≡ x .report → ackIn m ≡ a) (eqb c S.end) _ _ (λ z. cc)
+        (pick (λ (x : Heard). Acked j a label ≡ x .report → ackIn m ≡ a) (eqb c S.prefix) _ _ (λ z. cc) (pick (λ (x : Heard). Acked j a label ≡ x .report → ackIn m ≡ a) (eqb c S.gap) _ _ missed missed))
 
 -- nobody but the node that p is for says anything
 others-mute : (p : Packet) (s : State) → Carry p s → (i : ℕ) → p .to ≡ i → OthersMute s i
@@ -336,30 +348,33 @@ OnlyAwaits n f = (k : ℕ) → k < n → ours (placeOf (f k .mode)) ≡ true →
 module _ (s : State) (bk : ℕ → Book) (v : Heed s bk) (p : Packet) (ca : Carry p s) (kp : (k : ℕ) → Kept (s .cell k) (bk k)) where
   -- node j, whose cell is x but for the mode, hears t. Where it reports what it read, only a node in AwaitAck has a request running; where it hears a good Ack, that is what was given
   module _ (ph : Phase) (j : ℕ) (jl : j < s .n) (t : Signal) (x : Cell)
-      (ack : AckAt ph (λ k. upd (s .cell) j (setMode (hears j (s .cell j .mode) t .mode) x) k .mode))
+      (ack : AckAt ph (λ k. upd (s .cell) j (setMode (receives hears j (s .cell j) t .mode) x) k .mode))
       (only : mem (placeAt s j) tails ≡ true → OnlyAwaits (s .n) (s .cell))
       (ends : placeAt s j ≡ P.ackBody → eqb (classOf j t) S.ackGood ≡ true → Answered (ackOf t) (bk j .running)) where
+    abbrev label : ℕ
+    label = labelOf (s .cell j)
+
     abbrev m₀ : Mode
     m₀ = s .cell j .mode
 
     abbrev m₁ : Mode
-    m₁ = hears j m₀ t .mode
+    m₁ = hears j label m₀ t .mode
 
     abbrev After : (ℕ → Book) → Type 0
     After = Heed (moved s ph j (setMode m₁ x))
 
     own-heard : Own s bk v j m₁ (bk j .running)
-    own-heard = own-kept s bk v j jl m₁ (implied _ _ (law (λ y p c. implies (asking (y .place)) (asking p)) tt j m₀ t)) (implied _ _ (law (λ y p c. implies (sends (y .place)) (sends p)) tt j m₀ t)) λ e.
-        let y = hears-ack j m₀ t e in subst (λ a. Answered a (bk j .running)) (sym (y .2)) (ends (y .0) (y .1))
+    own-heard = own-kept s bk v j jl m₁ (implied _ _ (law (λ y p c. implies (asking (y .place)) (asking p)) tt j label m₀ t)) (implied _ _ (law (λ y p c. implies (sends (y .place)) (sends p)) tt j label m₀ t)) λ e.
+        let y = hears-ack j label m₀ t e in subst (λ a. Answered a (bk j .running)) (sym (y .2)) (ends (y .0) (y .1))
 
     -- node j is told: the only one that says something, and those who have a request running sent p and have no notes
-    tells-heed : (n : Note) → ToldOnce p (n ∷ []) → p .to ≡ j → tells (wordOf (hears j m₀ t .report)) ≡ true → After (λ k. notes n (bk k))
+    tells-heed : (n : Note) → ToldOnce p (n ∷ []) → p .to ≡ j → tells (wordOf (hears j label m₀ t .report)) ≡ true → After (λ k. notes n (bk k))
     tells-heed n once to w =
         noted s bk v ph j (setMode m₁ x) (λ k. notes n (bk k)) n jl (λ k. refl) (λ z. heard-mute (sym now ∙ z)) (others-mute p s ca j to)
         (λ k kl o e. let z : placeAt s k ≡ P.awaitAck = only (y .0) k kl (ap ours e) in omega arith) (λ k kl o e. agree k kl e) ack (v .honest)
       where
         y : (mem (placeOf m₀) tails ≡ true) × (placeOf m₁ ≡ P.told)
-        y = hears-told j m₀ t w
+        y = hears-told j label m₀ t w
 
         now : voice m₁ ≡ heard
         now = says-heard m₁ (ap (λ c. mem c tellers) (y .1))
@@ -391,33 +406,33 @@ module _ (s : State) (bk : ℕ → Book) (v : Heed s bk) (p : Packet) (ca : Carr
         clash _ (eq-eqb (s .cell k .sending .to) everybody (ap (λ q. q .to) (ca .own k kl (ap sends z)) ∙ to)) (kp k .near (eq-eqb _ _ z))
 
     -- it says what it said, where its report is neither good nor dcrc; it is a requester no more, where it reports a confirmation
-    says-same : {r : Report} → r ≡ hears j m₀ t .report → tells (wordOf r) ≡ false → voice m₁ ≡ voice m₀
-    says-same q e = hears-voice j m₀ t (ap (λ r. tells (wordOf r)) (sym q) ∙ e)
+    says-same : {r : Report} → r ≡ hears j label m₀ t .report → tells (wordOf r) ≡ false → voice m₁ ≡ voice m₀
+    says-same q e = hears-voice j label m₀ t (ap (λ r. tells (wordOf r)) (sym q) ∙ e)
 
-    is-gone : {r : Report} → r ≡ hears j m₀ t .report → conf (wordOf r) ≡ true → ours (placeOf m₁) ≡ false
-    is-gone q e = leaves j m₀ t (ap (λ r. conf (wordOf r)) (sym q) ∙ e) .1
+    is-gone : {r : Report} → r ≡ hears j label m₀ t .report → conf (wordOf r) ≡ true → ours (placeOf m₁) ≡ false
+    is-gone q e = leaves j label m₀ t (ap (λ r. conf (wordOf r)) (sym q) ∙ e) .1
 
-    hears-heed : Tells p (hears j m₀ t .report) → After (λ k. reports (eqb k (nodeOf (hears j m₀ t .report))) (hears j m₀ t .report) (bk k))
-    hears-heed z = go (hears j m₀ t .report) (by j m₀ t) refl z
+    hears-heed : Tells p (hears j label m₀ t .report) → After (λ k. reports (eqb k (nodeOf (hears j label m₀ t .report))) (hears j label m₀ t .report) (bk k))
+    hears-heed z = go (hears j label m₀ t .report) (by j label m₀ t) refl z
       where
-        go : (r : Report) → By j r → r ≡ hears j m₀ t .report → Tells p r → After (λ k. reports (eqb k (nodeOf r)) r (bk k))
+        go : (r : Report) → By j label r → r ≡ hears j label m₀ t .report → Tells p r → After (λ k. reports (eqb k (nodeOf r)) r (bk k))
         go r silent q y = calm s bk v ph j _ bk (λ k kl o h. refl) (says-same q refl) own-heard ack (v .honest)
         go r (acks {a = a}) q y =
-            let e = reports-ack j m₀ t a q in
-            confirmed s bk v ph j _ (Acked j a) (λ b x. reports b (Acked j a) x) (λ b. refl) (λ b. refl) (says-same q refl) (is-gone q refl)
-            (subst (λ a. Answered a (bk j .running)) (e .1) (v .acked j jl (e .0))) ack
+            let e = reports-ack j label m₀ t a q in
+            confirmed s bk v ph j _ (Acked j a label) (λ b x. reports b (Acked j a label) x) (λ b. refl) (λ b. refl) (says-same q refl) (is-gone q refl)
+            (run-both (λ p l. Labelled p label) (λ p l. Acknowledged p a l) (bk j .running) (labelled (s .cell j) (bk j) (kp j)) (subst (λ a. Answered a (bk j .running)) (e .1) (v .acked j jl (e .0)))) ack
         go r misses q y =
-            confirmed s bk v ph j _ (Miss j) (λ b x. reports b (Miss j) x) (λ b. refl) (λ b. refl) (says-same q refl) (is-gone q refl)
-            (run-all _ (bk j .running) (λ p l. tt)) ack
+            confirmed s bk v ph j _ (Miss j label) (λ b x. reports b (Miss j label) x) (λ b. refl) (λ b. refl) (says-same q refl) (is-gone q refl)
+            (labelled (s .cell j) (bk j) (kp j)) ack
         go r good q (told-none e) = never e
         go r good q (told-good e f g) = tells-heed _ (inl (cc)) e (ap (λ r. tells (wordOf r)) (sym q))
         go r dcrc q (told-none e) = never e
         go r dcrc q (told-dcrc e f) = tells-heed _ (inr (cc)) e (ap (λ r. tells (wordOf r)) (sym q))
         go r broad q (told-none e) = never e
         go r (broad {h = h} {d = d}) q (told-broad e) =
-            let f : mem (placeOf m₀) tails ≡ true = implied _ _ (law (λ y p c. implies (eqb (y .word) W.broad) (mem p tails)) tt j m₀ t) (ap (λ r. eqb (wordOf r) W.broad) (sym q)) in
+            let f : mem (placeOf m₀) tails ≡ true = implied _ _ (law (λ y p c. implies (eqb (y .word) W.broad) (mem p tails)) tt j label m₀ t) (ap (λ r. eqb (wordOf r) W.broad) (sym q)) in
             calm s bk v ph j _ (λ k. notes (told (Broad j h d)) (bk k)) (λ k kl o u. absurd (none-ours e f k kl u)) (says-same q refl)
-            (own-none s bk v j m₁ _ (remains j m₀ t (ap (λ r. not (conf (wordOf r))) (sym q)) ∙ not-true _ (by-place (λ p. mem p tails) (λ p. not (ours p)) tt m₀ f))) ack (v .honest)
+            (own-none s bk v j m₁ _ (remains j label m₀ t (ap (λ r. not (conf (wordOf r))) (sym q)) ∙ not-true _ (by-place (λ p. mem p tails) (λ p. not (ours p)) tt m₀ f))) ack (v .honest)
 
 -- WHAT THE STAGES SAY
 -- a node whose step is in a list without AckEnd's is not there
@@ -542,7 +557,7 @@ module _ (s : State) (bk : ℕ → Book) (v : Heed s bk) (p : Packet) (ca : Carr
   puts-heed t e header = on header e refl refl (λ z. never z)
   puts-heed t e datum = on datum e refl refl (λ z. never z)
   puts-heed t e (end-all h q) =
-      confirmed s bk v _ i _ (Sent i) (λ b x. reports b (Sent i) x) (λ b. refl) (λ b. refl) (sym (ap voice e)) refl (run-all _ (bk i .running) (λ p l. tt)) (out-acks End Rest (λ z. never z))
+      confirmed s bk v _ i _ (Sent i (s .cell i .sending .head .label)) (λ b x. reports b (Sent i (s .cell i .sending .head .label)) x) (λ b. refl) (λ b. refl) (sym (ap voice e)) refl (labelled (s .cell i) (bk i) (kp i)) (out-acks End Rest (λ z. never z))
   puts-heed t e (end-one h q) = on (end-one h q) e refl refl (λ z. never z)
   puts-heed t e filler = on filler e refl refl (λ z. never z)
   puts-heed t e (ack-start {a = a} {h = h}) = remarked-heed (markingBy (Acking 0 a h) Start) _ bk (on ack-start e refl refl (λ z. never z))
@@ -600,8 +615,8 @@ module _ (s : State) (bk : ℕ → Book) (v : Heed s bk) (p : Packet) (ca : Carr
       (v .agrees i w l (at-stage z .here) (ap asking e))
 
   -- node i gets its Gap
-  gapped : {ph : Phase} → s .phase ≡ Gapping i → AckAt ph (modesAfter s i (afterGap i (s .cell i))) → Tells p (hears i (s .cell i .mode) Gap .report) →
-      Heed (moved s ph i (afterGap i (s .cell i))) (λ k. reports (eqb k (nodeOf (hears i (s .cell i .mode) Gap .report))) (hears i (s .cell i .mode) Gap .report) (bk k))
+  gapped : {ph : Phase} → s .phase ≡ Gapping i → AckAt ph (modesAfter s i (afterGap i (s .cell i))) → Tells p (receives hears i (s .cell i) Gap .report) →
+      Heed (moved s ph i (afterGap i (s .cell i))) (λ k. reports (eqb k (nodeOf (receives hears i (s .cell i) Gap .report))) (receives hears i (s .cell i) Gap .report) (bk k))
   gapped z a =
       hears-heed s bk v p ca kp _ i l Gap (s .cell i) a
       (λ e. clash _ e (not-true _ (by-place (λ p. mem p quiet) (λ p. not (mem p tails)) tt (s .cell i .mode) (at-stage z .calm i l)))) (λ e f. never f)
@@ -630,7 +645,7 @@ module _ (s : State) (bk : ℕ → Book) (v : Heed s bk) (p : Packet) (ca : Carr
       calm s bk v _ i _ bk (λ k kl o h. refl) (sym (ap voice e)) (own-none s bk v i Rest _ refl)
       (pick (λ p. (f : ℕ → Mode) → AckAt p f) (others (holders (s .cell)) i (s .n)) _ _ (λ f. tt) (λ f. tt) _) (v .honest)
   heeds (arrives {w = w} {g = g} {t = t} {b = b} z x) =
-      hears-heed s bk v p ca kp _ i l t (hearing (s .cell i) (hears i (s .cell i .mode) t) b) (acks-on z _ _) (only-awaits (s .concatenated) (s .n) (s .cell) w g i (at-stage z)) (ack-ends z x)
+      hears-heed s bk v p ca kp _ i l t (hearing (s .cell i) (receives hears i (s .cell i) t) b) (acks-on z _ _) (only-awaits (s .concatenated) (s .n) (s .cell) w g i (at-stage z)) (ack-ends z x)
       (carries p s ca re i l (arrives z x) .tells)
   heeds (drops z e) = stays _ (acks-on z _ (s .cell i))
   heeds (grants z e f) =

@@ -21,12 +21,12 @@ use Rattle.charts.specs.declared.Move.the-variants.{Request, Arbitrate, 
 use Rattle.charts.specs.declared.Action.{Action}
 use Rattle.charts.specs.declared.Decoded.{Decoded}
 use Rattle.charts.specs.declared.Decoded.the-variants.{Refused, Accepted}
-use Rattle.charts.specs.Reception.{hears}
 use Rattle.charts.specs.Numbers as N
+use Rattle.charts.specs.Reception.{hears}
 use Rattle.charts.specs.Outputs.{output}
 use Rattle.charts.specs.Arrivals.{arrives}
 use Rattle.charts.specs.State.{State, isBusy, setMisled, setWon, wons, pendings, holders, upd, some, others, every, lowest, moved, remarked}
-use Rattle.charts.specs.Actions.{Outcome, closed, does, when, request, arbitrate, respond, clockWith, clock, deliverWith, carry, grant, gap, reset, nextOf, outcome}
+use Rattle.charts.specs.Actions.{Outcome, closed, does, when, request, arbitrate, respond, clockWith, clock, receives, deliverWith, carry, grant, gap, reset, nextOf, outcome}
 use Rattle.charts.specs.Records.{moveOf, read}
 use Rattle.charts.specs.Valid.{cellFits, valid}
 use Rattle.charts.specs.Step.{Result, Event, refuses, carryOut, about, comesTo, play, look, stepWith, step}
@@ -91,7 +91,7 @@ carry-agree n (Delivering i s j) c u v w e = go (arrives w (c .misled) s)
     go : (x : Arrival) → deliverWith hears n i s j c u x ≡ deliverWith hears n i s j c v x
     go A.Closed = refl
     go A.Lost = rw (e j (c .pending)) refl
-    go (A.Hears t b) = rw (e j (c .pending || hears j (c .mode) t .pends)) refl
+    go (A.Hears t b) = rw (e j (c .pending || receives hears j c t .pends)) refl
 carry-agree n Granting c u v w e = refl
 carry-agree n (Gapping j) c u v w e = refl
 

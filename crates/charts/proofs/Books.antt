@@ -69,26 +69,26 @@ pub record Keeps (m : Mode) (f : Buffer) (p : Packet) (b : Book) : Type 0 where
 abbrev pub Kept : Cell → Book → Type 0
 Kept c b = Keeps (c .mode) (c .buffer) (c .sending) b
 
--- a node that hears a signal reports nothing, or of itself
-pub data By (j : ℕ) : Report → Type 0 where
-  silent : By j Silent
-  acks : {a : ℕ} → By j (Acked j a)
-  misses : By j (Miss j)
-  good : {h : Head} {d : ℕ} → By j (Good j h d)
-  dcrc : {h : Head} → By j (Dcrc j h)
-  broad : {h : Head} {d : ℕ} → By j (Broad j h d)
+-- a node that hears a signal reports nothing, or of itself, a confirmation with the label of the packet that it is sending
+pub data By (j label : ℕ) : Report → Type 0 where
+  silent : By j label Silent
+  acks : {a : ℕ} → By j label (Acked j a label)
+  misses : By j label (Miss j label)
+  good : {h : Head} {d : ℕ} → By j label (Good j h d)
+  dcrc : {h : Head} → By j label (Dcrc j h)
+  broad : {h : Head} {d : ℕ} → By j label (Broad j h d)
 
-pub by : (j : ℕ) (m : Mode) (g : Signal) → By j (hears j m g .report)
+pub by : (j label : ℕ) (m : Mode) (g : Signal) → By j label (hears j label m g .report)
 unfolding hears
-by j m g = go m
+by j label m g = go m
   where
     c : ℕ
     c = classOf j g
 
-    arm : (b : Bool) (x y : Heard) → By j (x .report) → By j (y .report) → By j (cond b x y .report)
-    arm b x y = pick (λ (x : Heard). By j (x .report)) b x y
+    arm : (b : Bool) (x y : Heard) → By j label (x .report) → By j label (y .report) → By j label (cond b x y .report)
+    arm b x y = pick (λ (x : Heard). By j label (x .report)) b x y
 
-    go : (m : Mode) → By j (Reception.answer j m c g .report)
+    go : (m : Mode) → By j label (Reception.answer j label m c g .report)
     go Rest = arm (eqb c S.start) _ _ silent silent
     go AwaitAck = arm (eqb c S.prefix) _ _ silent (arm (eqb c S.start) _ _ silent (arm (eqb c S.gap) _ _ misses misses))
     go AckBody = arm (eqb c S.gap) _ _ misses (arm (isLine c) _ _ misses (arm (eqb c S.ackGood) _ _ silent silent))
@@ -119,7 +119,7 @@ pub data Of (i : ℕ) (r : Report) : Type 0 where
   nothing : r ≡ Silent → Of i r
   names : nodeOf r ≡ i → Of i r
 
-pub by-of : {j : ℕ} {r : Report} → By j r → Of j r
+pub by-of : {j label : ℕ} {r : Report} → By j label r → Of j r
 by-of silent = nothing refl
 by-of acks = names refl
 by-of misses = names refl
@@ -132,37 +132,37 @@ of-node : (i : ℕ) (r : Report) → Of i r → (k : ℕ) (b : Book) → reports
 of-node i r (nothing e) k b = subst (λ r. reports (eqb k (nodeOf r)) r b ≡ reports (eqb k i) r b) (sym e) refl
 of-node i r (names e) k b = ap (λ i. reports (eqb k i) r b) e
 
-pub by-node : (j : ℕ) (r : Report) → By j r → (k : ℕ) (b : Book) → reports (eqb k (nodeOf r)) r b ≡ reports (eqb k j) r b
-by-node j r x = of-node j r (by-of x)
+pub by-node : (j label : ℕ) (r : Report) → By j label r → (k : ℕ) (b : Book) → reports (eqb k (nodeOf r)) r b ≡ reports (eqb k j) r b
+by-node j label r x = of-node j r (by-of x)
 
 -- sent, ack and miss by their words: a node that hears reports one of them exactly where it leaves those modes
 abbrev pub conf : ℕ → Bool
 conf w = mem w (W.sent ∷ W.acked ∷ W.miss ∷ [])
 
-pub leaves : (me : ℕ) (m : Mode) (g : Signal) → conf (wordOf (hears me m g .report)) ≡ true → (ours (placeOf m) ≡ true) × (ours (placeOf (hears me m g .mode)) ≡ false)
-leaves me m g e =
-    let z = and-true (ours (placeOf m)) _ (implied (conf (wordOf (hears me m g .report))) _ (law (λ y p c. implies (conf (y .word)) (ours p && not (ours (y .place)))) tt me m g) e) in
+pub leaves : (me label : ℕ) (m : Mode) (g : Signal) → conf (wordOf (hears me label m g .report)) ≡ true → (ours (placeOf m) ≡ true) × (ours (placeOf (hears me label m g .mode)) ≡ false)
+leaves me label m g e =
+    let z = and-true (ours (placeOf m)) _ (implied (conf (wordOf (hears me label m g .report))) _ (law (λ y p c. implies (conf (y .word)) (ours p && not (ours (y .place)))) tt me label m g) e) in
     (z .0, not-true _ (z .1))
 
-pub remains : (me : ℕ) (m : Mode) (g : Signal) → not (conf (wordOf (hears me m g .report))) ≡ true → ours (placeOf (hears me m g .mode)) ≡ ours (placeOf m)
-remains me m g e =
-    beq-eq _ _ (implied (not (conf (wordOf (hears me m g .report)))) _ (law (λ y p c. implies (not (conf (y .word))) (Bool·beq (ours (y .place)) (ours p))) tt me m g) e)
+pub remains : (me label : ℕ) (m : Mode) (g : Signal) → not (conf (wordOf (hears me label m g .report))) ≡ true → ours (placeOf (hears me label m g .mode)) ≡ ours (placeOf m)
+remains me label m g e =
+    beq-eq _ _ (implied (not (conf (wordOf (hears me label m g .report)))) _ (law (λ y p c. implies (not (conf (y .word))) (Bool·beq (ours (y .place)) (ours p))) tt me label m g) e)
 
 -- nobody comes to AwaitAck by hearing
-awaits : (me : ℕ) (m : Mode) (g : Signal) → eqb (placeOf (hears me m g .mode)) P.awaitAck ≡ true → eqb (placeOf m) P.awaitAck ≡ true
-awaits me m g = implied (eqb (placeOf (hears me m g .mode)) P.awaitAck) _ (law (λ y p c. implies (eqb (y .place) P.awaitAck) (eqb p P.awaitAck)) tt me m g)
+awaits : (me label : ℕ) (m : Mode) (g : Signal) → eqb (placeOf (hears me label m g .mode)) P.awaitAck ≡ true → eqb (placeOf m) P.awaitAck ≡ true
+awaits me label m g = implied (eqb (placeOf (hears me label m g .mode)) P.awaitAck) _ (law (λ y p c. implies (eqb (y .place) P.awaitAck) (eqb p P.awaitAck)) tt me label m g)
 
 -- hearing a signal changes nothing of a hold
-hears-hold : (me : ℕ) (m : Mode) (g : Signal) → holdOf (hears me m g .mode) ≡ holdOf m
+hears-hold : (me label : ℕ) (m : Mode) (g : Signal) → holdOf (hears me label m g .mode) ≡ holdOf m
 unfolding hears
-hears-hold me m g = go (eqb (placeOf m) P.acking) refl
+hears-hold me label m g = go (eqb (placeOf m) P.acking) refl
   where
-    go : (b : Bool) → eqb (placeOf m) P.acking ≡ b → holdOf (hears me m g .mode) ≡ holdOf m
-    go true e = subst (λ (m : Mode). holdOf (hears me m g .mode) ≡ holdOf m) (sym (mode-is m P.acking (eqb-true _ _ e))) refl
+    go : (b : Bool) → eqb (placeOf m) P.acking ≡ b → holdOf (hears me label m g .mode) ≡ holdOf m
+    go true e = subst (λ (m : Mode). holdOf (hears me label m g .mode) ≡ holdOf m) (sym (mode-is m P.acking (eqb-true _ _ e))) refl
     go false e =
-        let a : isHolding (hears me m g .mode) ≡ isHolding m = beq-eq _ _ (law (λ y p c. Bool·beq (eqb (y .place) P.holding) (eqb p P.holding)) tt me m g) in
-        let f : eqb (placeOf (hears me m g .mode)) P.acking ≡ eqb (placeOf m) P.acking = beq-eq _ _ (law (λ y p c. Bool·beq (eqb (y .place) P.acking) (eqb p P.acking)) tt me m g) in
-        let x : holdIn (hears me m g .mode) ≡ false = hold-in (hears me m g .mode) ∙ ap (λ b. b && holdIn (hears me m g .mode)) (f ∙ e) in
+        let a : isHolding (hears me label m g .mode) ≡ isHolding m = beq-eq _ _ (law (λ y p c. Bool·beq (eqb (y .place) P.holding) (eqb p P.holding)) tt me label m g) in
+        let f : eqb (placeOf (hears me label m g .mode)) P.acking ≡ eqb (placeOf m) P.acking = beq-eq _ _ (law (λ y p c. Bool·beq (eqb (y .place) P.acking) (eqb p P.acking)) tt me label m g) in
+        let x : holdIn (hears me label m g .mode) ≡ false = hold-in (hears me label m g .mode) ∙ ap (λ b. b && holdIn (hears me label m g .mode)) (f ∙ e) in
         let y : holdIn m ≡ false = hold-in m ∙ ap (λ b. b && holdIn m) e in
         cc
 
@@ -218,17 +218,17 @@ put (ack-end l) = silently refl refl (λ z. never z)
 put holds-on = silently refl refl (λ z. never z)
 
 -- a node that hears a signal keeps its book
-hear : {m : Mode} {f : Buffer} {p : Packet} {b : Book} (j : ℕ) (g : Signal) → Keeps m f p b → Keeps (hears j m g .mode) f p (reports true (hears j m g .report) b)
-hear {m} {f} {p} {b} j g v = go (hears j m g .report) (by j m g) (remains j m g) (leaves j m g)
+hear : {m : Mode} {f : Buffer} {p : Packet} {b : Book} (j label : ℕ) (g : Signal) → Keeps m f p b → Keeps (hears j label m g .mode) f p (reports true (hears j label m g .report) b)
+hear {m} {f} {p} {b} j label g v = go (hears j label m g .report) (by j label m g) (remains j label m g) (leaves j label m g)
   where
-    same : ours (placeOf (hears j m g .mode)) ≡ ours (placeOf m) → Keeps (hears j m g .mode) f p b
-    same o = stay (hears-hold j m g) o (λ e. v .near (awaits j m g e)) v
+    same : ours (placeOf (hears j label m g .mode)) ≡ ours (placeOf m) → Keeps (hears j label m g .mode) f p b
+    same o = stay (hears-hold j label m g) o (λ e. v .near (awaits j label m g e)) v
 
-    gone : (r : Report) → (ours (placeOf m) ≡ true) × (ours (placeOf (hears j m g .mode)) ≡ false) → Keeps (hears j m g .mode) f p (confirms r (b .running) b)
-    gone r o = ends r (hears-hold j m g) (o .0) (o .1) v
+    gone : (r : Report) → (ours (placeOf m) ≡ true) × (ours (placeOf (hears j label m g .mode)) ≡ false) → Keeps (hears j label m g .mode) f p (confirms r (b .running) b)
+    gone r o = ends r (hears-hold j label m g) (o .0) (o .1) v
 
-    go : (r : Report) → By j r → (not (conf (wordOf r)) ≡ true → ours (placeOf (hears j m g .mode)) ≡ ours (placeOf m)) →
-        (conf (wordOf r) ≡ true → (ours (placeOf m) ≡ true) × (ours (placeOf (hears j m g .mode)) ≡ false)) → Keeps (hears j m g .mode) f p (reports true r b)
+    go : (r : Report) → By j label r → (not (conf (wordOf r)) ≡ true → ours (placeOf (hears j label m g .mode)) ≡ ours (placeOf m)) →
+        (conf (wordOf r) ≡ true → (ours (placeOf m) ≡ true) × (ours (placeOf (hears j label m g .mode)) ≡ false)) → Keeps (hears j label m g .mode) f p (reports true r b)
     go r silent s l = same (s refl)
     go r acks s l = gone _ (l refl)
     go r misses s l = gone _ (l refl)
@@ -257,9 +257,9 @@ aside-report : {m : Mode} {f : Buffer} {p : Packet} {b : Book} (r : Report) → 
 aside-report Silent v = v
 aside-report (Won i) v = v
 aside-report (Lost i) v = v
-aside-report (Sent i) v = v
-aside-report (Acked i a) v = v
-aside-report (Miss i) v = v
+aside-report (Sent i x) v = v
+aside-report (Acked i a x) v = v
+aside-report (Miss i x) v = v
 aside-report (Good i h d) v = noted _ v
 aside-report (Dcrc i h) v = noted _ v
 aside-report (Broad i h d) v = noted _ v
@@ -278,12 +278,12 @@ module _ (s : State) where
   event-names (gives e u) = record { mover = λ k b. refl; reporter = nothing refl }
   event-names (puts q h o x) = record { mover = λ k b. refl; reporter = put x .reporter }
   event-names (frees q h e) = record { mover = λ k b. refl; reporter = nothing refl }
-  event-names (arrives {j = j} {t = t} q x) = record { mover = λ k b. refl; reporter = by-of (by j (s .cell j .mode) t) }
+  event-names (arrives {j = j} {t = t} q x) = record { mover = λ k b. refl; reporter = by-of (by j _ (s .cell j .mode) t) }
   event-names (drops q e) = record { mover = λ k b. refl; reporter = nothing refl }
   event-names (grants q e l) = record { mover = λ k b. refl; reporter = nothing refl }
   event-names (grants-none q e) = record { mover = λ k b. refl; reporter = nothing refl }
-  event-names (gaps {j = j} q u) = record { mover = λ k b. refl; reporter = by-of (by j (s .cell j .mode) _) }
-  event-names (settles {j = j} q u) = record { mover = λ k b. refl; reporter = by-of (by j (s .cell j .mode) _) }
+  event-names (gaps {j = j} q u) = record { mover = λ k b. refl; reporter = by-of (by j _ (s .cell j .mode) _) }
+  event-names (settles {j = j} q u) = record { mover = λ k b. refl; reporter = by-of (by j _ (s .cell j .mode) _) }
   event-names (resets q) = record { mover = λ k b. refl; reporter = nothing refl }
 
   -- the book of the action's own node
@@ -305,12 +305,12 @@ module _ (s : State) where
       (record { right = v .right; waits = v .waits; holds = refl; runs = subst (λ m. Runs (ours (placeOf m)) (s .cell i .sending) (b .running)) e (v .runs); near = λ z. never z })
   own b (puts q h o x) v = put x .keeps v
   own b (frees {i = i} q h e) v = stay refl refl (λ z. never z) (subst (λ m. Keeps m (s .cell i .buffer) (s .cell i .sending) b) e v)
-  own b (arrives {j = j} {t = t} q x) v = hear j t v
+  own b (arrives {j = j} {t = t} q x) v = hear j _ t v
   own b (drops q e) v = v
   own b (grants q e l) v = grant v
   own b (grants-none q e) v = v
-  own b (gaps {j = j} q u) v = hear j _ v
-  own b (settles {j = j} q u) v = hear j _ v
+  own b (gaps {j = j} q u) v = hear j _ _ v
+  own b (settles {j = j} q u) v = hear j _ _ v
   own b (resets q) v = v
 
   -- the book of node k, which is the action's own or another

@@ -1,16 +1,21 @@
--- Sanity, computed by the checker: the marked cases A to F and I of document 01 and a reply as a table, played by the charts, and a refusal of each number that a step gives.
+-- Sanity, computed by the checker: the marked cases A to F and I of document 01, a reply and labels as a table, played by the charts, and a refusal of each number that a step gives.
 use mathlib.Core.Path.{_≡_, refl}
 use mathlib.Core.Bool.{true, false, cond, true≢false}
 use mathlib.Core.List.{List, [], _∷_, _++_, map}
 use Prim.Native.Nat.{ℕ, zero, suc}
 use lib.Dec.{lit≤}
-use lib.ListN.{set, take, drop}
+use lib.ListN.{set, take, drop, replicate}
 use Rattle.charts.specs.declared.Head.{Head}
-use Rattle.charts.specs.declared.Signal.the-variants.{Prefix}
+use Rattle.charts.specs.declared.Datum.the-variants as D
+use Rattle.charts.specs.declared.Mode.the-variants.{BodyOwn, BodyAll, TailOwn, TailAll}
+use Rattle.charts.specs.declared.Signal.the-variants.{Prefix, Header}
 use Rattle.charts.specs.declared.Report.{Report}
 use Rattle.charts.specs.declared.Report.the-variants.{Silent, Won, Lost, Sent, Acked, Miss, Good, Dcrc, Broad}
+use Rattle.charts.specs.declared.Packet.{Packet}
+use Rattle.charts.specs.declared.Buffer.the-variants.{Full}
 use Rattle.charts.specs.declared.Phase.{Phase}
 use Rattle.charts.specs.declared.Phase.the-variants.{Idle, Busy, Delivering, Granting, Gapping}
+use Rattle.charts.specs.declared.Cell.{Cell}
 use Rattle.charts.specs.declared.Way.the-variants.{Pass}
 use Rattle.charts.specs.declared.Move.the-variants.{Carry}
 use Rattle.charts.specs.declared.Action.{Action}
@@ -18,7 +23,7 @@ use Rattle.charts.specs.Numbers as N
 use Rattle.charts.specs.Reception.{hears}
 use Rattle.charts.specs.Outputs.{output}
 use Rattle.charts.specs.Arrivals.{arrives}
-use Rattle.charts.specs.State.{State, fresh}
+use Rattle.charts.specs.State.{State, setMode, setBuffer, setSending, moved, freshCell, fresh}
 use Rattle.charts.specs.Actions as Actions
 use Rattle.charts.specs.Actions.{outcome}
 use Rattle.charts.specs.Records.{clean, moveOf, read}
@@ -27,44 +32,44 @@ use Rattle.charts.specs.Step.{Result, Event, refuses, play, look, step, 
 use Rattle.charts.specs.Demand as Demand
 use Rattle.charts.specs.Demand.{history, allForward, meetsIdle}
 use Rattle.charts.specs.Stretch.{Witnessed}
-use Rattle.charts.proofs.Whole.{every-ack-of}
+use Rattle.charts.proofs.Whole.{every-confirmation-of}
 use Rattle.charts.proofs.Steps as S
 use Rattle.charts.proofs.Steps.{Stepped, stepped}
 
 -- the action records
-abbrev act : ℕ → ℕ → ℕ → ℕ → ℕ → ℕ → ℕ → Action
-act kind node address ack hold header datum =
-    record { kind = kind; node = node; address = address; ack = ack; hold = hold; byte5 = 0; byte6 = 0; byte7 = 0; header = header; datum = datum }
+abbrev act : ℕ → ℕ → ℕ → ℕ → ℕ → ℕ → ℕ → ℕ → Action
+act kind node address ack hold label header datum =
+    record { kind = kind; node = node; address = address; ack = ack; hold = hold; label = label; byte6 = 0; byte7 = 0; header = header; datum = datum }
 
-abbrev request : ℕ → ℕ → ℕ → ℕ → Action
-request i to h d = act 1 i to 0 0 h d
+abbrev request : ℕ → ℕ → ℕ → ℕ → ℕ → Action
+request i to x h d = act 1 i to 0 0 x h d
 
 abbrev arbitrate : ℕ → Action
-arbitrate i = act 2 i 0 0 0 0 0
+arbitrate i = act 2 i 0 0 0 0 0 0
 
 abbrev respond : ℕ → ℕ → ℕ → Action
-respond i a hold = act 3 i 0 a hold 0 0
+respond i a hold = act 3 i 0 a hold 0 0 0
 
 abbrev clock : ℕ → Action
-clock i = act 4 i 0 0 0 0 0
+clock i = act 4 i 0 0 0 0 0 0
 
 abbrev pass : Action
-pass = act 5 0 0 0 0 0 0
+pass = act 5 0 0 0 0 0 0 0
 
 abbrev lose : Action
-lose = act 6 0 0 0 0 0 0
+lose = act 6 0 0 0 0 0 0 0
 
 abbrev change : ℕ → Action
-change b = act 7 0 b 0 0 0 0
+change b = act 7 0 b 0 0 0 0 0
 
 abbrev grant : Action
-grant = act 8 0 0 0 0 0 0
+grant = act 8 0 0 0 0 0 0 0
 
 abbrev gap : Action
-gap = act 9 0 0 0 0 0 0
+gap = act 9 0 0 0 0 0 0 0
 
 abbrev reset : Action
-reset = act 10 0 0 0 0 0 0
+reset = act 10 0 0 0 0 0 0 0
 
 abbrev times : ℕ → List Action → List Action
 times zero l = []
@@ -88,9 +93,9 @@ abbrev said : ℕ → Report → List (At Report) → List (At Report)
 said i Silent l = l
 said i (Won j) l = at i (Won j) ∷ l
 said i (Lost j) l = at i (Lost j) ∷ l
-said i (Sent j) l = at i (Sent j) ∷ l
-said i (Acked j a) l = at i (Acked j a) ∷ l
-said i (Miss j) l = at i (Miss j) ∷ l
+said i (Sent j x) l = at i (Sent j x) ∷ l
+said i (Acked j a x) l = at i (Acked j a x) ∷ l
+said i (Miss j x) l = at i (Miss j x) ∷ l
 said i (Good j h d) l = at i (Good j h d) ∷ l
 said i (Dcrc j h) l = at i (Dcrc j h) ∷ l
 said i (Broad j h d) l = at i (Broad j h d) ∷ l
@@ -111,37 +116,41 @@ abbrev shows : ℕ → List Action → Shown
 shows n l =
     record { reports = reportsFrom 0 (results (fresh n) l); refusals = refusalsFrom 0 (results (fresh n) l); done = acceptedOf (results (fresh n) l); bus = after (fresh n) l .phase }
 
--- "n = 2: request 0 to 63 (header 1, data 2), arbitrate 0, six times clock 0 and pass, gap, gap"
+-- "n = 2: request 0 to 63 (header 1, data 2), arbitrate 0, six times clock 0 and pass, gap, gap" ("older runs hold 0" as their label)
 abbrev a : List Action
-a = request 0 63 1 2 ∷ arbitrate 0 ∷ times 6 (clock 0 ∷ pass ∷ []) ++ (gap ∷ gap ∷ [])
+a = request 0 63 0 1 2 ∷ arbitrate 0 ∷ times 6 (clock 0 ∷ pass ∷ []) ++ (gap ∷ gap ∷ [])
 
--- "as A but 0 to 1 (5, 6) […]; grant, respond 1 with 1 and hold 0, three times clock 1 and pass […]; two gaps"
-abbrev b : List Action
-b = request 0 1 5 6 ∷ arbitrate 0 ∷ times 6 (clock 0 ∷ pass ∷ []) ++ (grant ∷ respond 1 1 0 ∷ times 3 (clock 1 ∷ pass ∷ []) ++ (gap ∷ gap ∷ []))
+-- "as A but 0 to 1 (5, 6) […]; grant, respond 1 with 1 and hold 0, three times clock 1 and pass […]; two gaps"; with the label x
+abbrev b : ℕ → List Action
+b x = request 0 1 x 5 6 ∷ arbitrate 0 ∷ times 6 (clock 0 ∷ pass ∷ []) ++ (grant ∷ respond 1 1 0 ∷ times 3 (clock 1 ∷ pass ∷ []) ++ (gap ∷ gap ∷ []))
 
 -- "n = 3, 0 to 1, node 2's Dest changed to 2", both grants; then clock 1, clock 2, clock 1
 abbrev f : List Action
 f =
-    request 0 1 5 6 ∷ arbitrate 0 ∷ times 2 (clock 0 ∷ pass ∷ pass ∷ []) ++ (clock 0 ∷ pass ∷ change 2 ∷ times 3 (clock 0 ∷ pass ∷ pass ∷ []))
+    request 0 1 0 5 6 ∷ arbitrate 0 ∷ times 2 (clock 0 ∷ pass ∷ pass ∷ []) ++ (clock 0 ∷ pass ∷ change 2 ∷ times 3 (clock 0 ∷ pass ∷ pass ∷ []))
     ++ (grant ∷ grant ∷ clock 1 ∷ clock 2 ∷ clock 1 ∷ [])
 
 -- one of document 01's traps, "A misled mark left over from the packet before": F played to its end, and then a packet for node 2, which had been misled
 abbrev afterF : List Action
 afterF =
     take 22 f ++ (clock 2 ∷ respond 1 1 0 ∷ times 3 (clock 1 ∷ pass ∷ pass ∷ []))
-    ++ (gap ∷ gap ∷ gap ∷ reset ∷ request 0 2 7 8 ∷ arbitrate 0 ∷ times 6 (clock 0 ∷ pass ∷ pass ∷ []))
+    ++ (gap ∷ gap ∷ gap ∷ reset ∷ request 0 2 0 7 8 ∷ arbitrate 0 ∷ times 6 (clock 0 ∷ pass ∷ pass ∷ []))
 
--- request 1: B with hold 1; node 1 replies to node 0, who hears it and acknowledges it
+-- request 1: B with the label 7 and hold 1; node 1 replies to node 0, with the label 8, who hears it and acknowledges it
 abbrev reply : List Action
 reply =
-    take 15 b ++ (respond 1 1 1 ∷ times 3 (clock 1 ∷ pass ∷ []) ++ (request 1 0 7 8 ∷ times 6 (clock 1 ∷ pass ∷ [])
+    take 15 (b 7) ++ (respond 1 1 1 ∷ times 3 (clock 1 ∷ pass ∷ []) ++ (request 1 0 8 7 8 ∷ times 6 (clock 1 ∷ pass ∷ [])
     ++ (grant ∷ respond 0 2 0 ∷ times 3 (clock 0 ∷ pass ∷ []) ++ (gap ∷ gap ∷ []))))
 
 -- n = 3: node 1 puts out a filler and then replies to all nodes
 abbrev replyAll : List Action
 replyAll =
-    request 0 1 5 6 ∷ arbitrate 0 ∷ times 6 (clock 0 ∷ pass ∷ pass ∷ []) ++ (grant ∷ respond 1 1 1 ∷ times 4 (clock 1 ∷ pass ∷ pass ∷ [])
-    ++ (request 1 63 7 8 ∷ times 6 (clock 1 ∷ pass ∷ pass ∷ []) ++ (gap ∷ gap ∷ gap ∷ [])))
+    request 0 1 7 5 6 ∷ arbitrate 0 ∷ times 6 (clock 0 ∷ pass ∷ pass ∷ []) ++ (grant ∷ respond 1 1 1 ∷ times 4 (clock 1 ∷ pass ∷ pass ∷ [])
+    ++ (request 1 63 8 7 8 ∷ times 6 (clock 1 ∷ pass ∷ pass ∷ []) ++ (gap ∷ gap ∷ gap ∷ [])))
+
+-- request 3: the reply while a packet with the label 9 waits in node 1's buffer
+abbrev waiting : List Action
+waiting = request 1 0 9 1 2 ∷ reply
 
 -- a row: the nodes and the actions, and what document 01 says that they show
 pub record Row : Type 0 where
@@ -152,48 +161,56 @@ pub record Row : Type 0 where
 abbrev row : ℕ → List Action → List (At Report) → List (At ℕ) → ℕ → Phase → Row
 row n l reports refusals done bus = record { nodes = n; actions = l; shown = record { reports = reports; refusals = refusals; done = done; bus = bus } }
 
-abbrev head : ℕ → Head
-head h = record { header = h }
+abbrev head : ℕ → ℕ → Head
+head h x = record { header = h; label = x }
 
 abbrev pub table : List Row
 table =
-    -- A: sent at 12, broad at 13
-    row 2 a (at 1 (Won 0) ∷ at 12 (Sent 0) ∷ at 13 (Broad 1 (head 1) 2) ∷ []) [] 16 Idle
+    -- A: "12 4 0 sent 0", broad at 13
+    row 2 a (at 1 (Won 0) ∷ at 12 (Sent 0 0) ∷ at 13 (Broad 1 (head 1 0) 2) ∷ []) [] 16 Idle
     -- B: "index 13 reports `1 good 5 6`; […] index 21 reports `0 ack 1`; […] `done 24`"
-    ∷ row 2 b (at 1 (Won 0) ∷ at 13 (Good 1 (head 5) 6) ∷ at 21 (Acked 0 1) ∷ []) [] 24 Idle
+    ∷ row 2 (b 0) (at 1 (Won 0) ∷ at 13 (Good 1 (head 5 0) 6) ∷ at 21 (Acked 0 1 0) ∷ []) [] 24 Idle
     -- C: "B with change at 11: 13 reports `1 dcrc 5`"
-    ∷ row 2 (set b 11 (change 0)) (at 1 (Won 0) ∷ at 13 (Dcrc 1 (head 5)) ∷ at 21 (Acked 0 1) ∷ []) [] 24 Idle
+    ∷ row 2 (set (b 0) 11 (change 0)) (at 1 (Won 0) ∷ at 13 (Dcrc 1 (head 5 0)) ∷ at 21 (Acked 0 1 0) ∷ []) [] 24 Idle
     -- D: "B with lose at 9, nothing reported at 13; grant, clock 1, gap: index 16 reports `0 miss`"
-    ∷ row 2 (take 14 (set b 9 lose) ++ (grant ∷ clock 1 ∷ gap ∷ [])) (at 1 (Won 0) ∷ at 16 (Miss 0) ∷ []) [] 17 (Gapping 1)
+    ∷ row 2 (take 14 (set (b 0) 9 lose) ++ (grant ∷ clock 1 ∷ gap ∷ [])) (at 1 (Won 0) ∷ at 16 (Miss 0 0) ∷ []) [] 17 (Gapping 1)
     -- E: "B with lose at 19: 21 reports `0 miss`"
-    ∷ row 2 (set b 19 lose) (at 1 (Won 0) ∷ at 13 (Good 1 (head 5) 6) ∷ at 21 (Miss 0) ∷ []) [] 24 Idle
+    ∷ row 2 (set (b 0) 19 lose) (at 1 (Won 0) ∷ at 13 (Good 1 (head 5 0) 6) ∷ at 21 (Miss 0 0) ∷ []) [] 24 Idle
     -- F: "after both grants clock 1 is refused 7 until clock 2"
-    ∷ row 3 f (at 1 (Won 0) ∷ at 18 (Good 1 (head 5) 6) ∷ []) (at 22 7 ∷ []) 24 (Delivering 1 Prefix 0)
+    ∷ row 3 f (at 1 (Won 0) ∷ at 18 (Good 1 (head 5 0) 6) ∷ []) (at 22 7 ∷ []) 24 (Delivering 1 Prefix 0)
     -- F to its end: the mark is cleared by the next Start, and node 2 hears the packet that is for it
-    ∷ row 3 afterF (at 1 (Won 0) ∷ at 18 (Good 1 (head 5) 6) ∷ at 31 (Acked 0 1) ∷ at 38 (Won 0) ∷ at 56 (Good 2 (head 7) 8) ∷ []) [] 57 Granting
+    ∷ row 3 afterF (at 1 (Won 0) ∷ at 18 (Good 1 (head 5 0) 6) ∷ at 31 (Acked 0 1 0) ∷ at 38 (Won 0) ∷ at 56 (Good 2 (head 7 0) 8) ∷ []) [] 57 Granting
     -- I: "acknowledgement 15 taken, 16 refused": B up to its grant, then respond 16, respond 15, and once more (7: the node is Acking by then)
-    ∷ row 2 (take 15 b ++ (respond 1 16 0 ∷ respond 1 15 0 ∷ respond 1 15 0 ∷ [])) (at 1 (Won 0) ∷ at 13 (Good 1 (head 5) 6) ∷ []) (at 15 6 ∷ at 17 7 ∷ []) 16 Busy
+    ∷ row 2 (take 15 (b 0) ++ (respond 1 16 0 ∷ respond 1 15 0 ∷ respond 1 15 0 ∷ [])) (at 1 (Won 0) ∷ at 13 (Good 1 (head 5 0) 6) ∷ []) (at 15 6 ∷ at 17 7 ∷ []) 16 Busy
     -- the reply heard and acknowledged
-    ∷ row 2 reply (at 1 (Won 0) ∷ at 13 (Good 1 (head 5) 6) ∷ at 21 (Acked 0 1) ∷ at 34 (Good 0 (head 7) 8) ∷ at 42 (Acked 1 2) ∷ []) [] 45 Idle
+    ∷ row 2 reply (at 1 (Won 0) ∷ at 13 (Good 1 (head 5 7) 6) ∷ at 21 (Acked 0 1 7) ∷ at 34 (Good 0 (head 7 8) 8) ∷ at 42 (Acked 1 2 8) ∷ []) [] 45 Idle
     -- the same, with a respond with hold 1 tried first: 7
-    ∷ row 2 (take 36 reply ++ (respond 0 2 1 ∷ drop 36 reply)) (at 1 (Won 0) ∷ at 13 (Good 1 (head 5) 6) ∷ at 21 (Acked 0 1) ∷ at 34 (Good 0 (head 7) 8) ∷ at 43 (Acked 1 2) ∷ []) (at 36 7 ∷ []) 45 Idle
+    ∷ row 2 (take 36 reply ++ (respond 0 2 1 ∷ drop 36 reply)) (at 1 (Won 0) ∷ at 13 (Good 1 (head 5 7) 6) ∷ at 21 (Acked 0 1 7) ∷ at 34 (Good 0 (head 7 8) 8) ∷ at 43 (Acked 1 2 8) ∷ []) (at 36 7 ∷ []) 45 Idle
     -- a reply to all nodes behind a filler: node 0, who listened, is told; node 2 waits
-    ∷ row 3 replyAll (at 1 (Won 0) ∷ at 18 (Good 1 (head 5) 6) ∷ at 29 (Acked 0 1) ∷ at 50 (Sent 1) ∷ at 51 (Broad 0 (head 7) 8) ∷ []) [] 56 Idle
+    ∷ row 3 replyAll (at 1 (Won 0) ∷ at 18 (Good 1 (head 5 7) 6) ∷ at 29 (Acked 0 1 7) ∷ at 50 (Sent 1 8) ∷ at 51 (Broad 0 (head 7 8) 8) ∷ []) [] 56 Idle
+    -- labels: B, C, D and E with one
+    ∷ row 2 (b 7) (at 1 (Won 0) ∷ at 13 (Good 1 (head 5 7) 6) ∷ at 21 (Acked 0 1 7) ∷ []) [] 24 Idle
+    ∷ row 2 (set (b 62) 11 (change 0)) (at 1 (Won 0) ∷ at 13 (Dcrc 1 (head 5 62)) ∷ at 21 (Acked 0 1 62) ∷ []) [] 24 Idle
+    ∷ row 2 (take 14 (set (b 1) 9 lose) ++ (grant ∷ clock 1 ∷ gap ∷ [])) (at 1 (Won 0) ∷ at 16 (Miss 0 1) ∷ []) [] 17 (Gapping 1)
+    ∷ row 2 (set (b 63) 19 lose) (at 1 (Won 0) ∷ at 13 (Good 1 (head 5 63) 6) ∷ at 21 (Miss 0 63) ∷ []) [] 24 Idle
+    -- the reply's acknowledgement is lost while another packet waits in the buffer: the miss bears the reply's label; and the packet that waited is sent with its own
+    ∷ row 2 (set waiting 41 lose ++ (arbitrate 1 ∷ times 6 (clock 1 ∷ pass ∷ [])))
+    (at 2 (Won 0) ∷ at 14 (Good 1 (head 5 7) 6) ∷ at 22 (Acked 0 1 7) ∷ at 35 (Good 0 (head 7 8) 8) ∷ at 43 (Miss 1 8) ∷ at 46 (Won 1) ∷ at 58 (Good 0 (head 1 9) 2) ∷ []) [] 59 Granting
     ∷ []
 
 pub cases : map (λ (r : Row). shows (r .nodes) (r .actions)) table ≡ map (λ (r : Row). r .shown) table
 unfolding step look play outcome Actions.request Actions.arbitrate Actions.respond Actions.clock Actions.carry Actions.grant Actions.gap Actions.reset output arrives hears clean moveOf read valid phaseFits cellFits modeFits
 cases = refl
 
--- the theorem speaks of these runs: the `ack 1` of B, at 21, stands behind its request's start, a told report and a respond
-pub b-witnessed : Witnessed 0 1 (take 21 (history 2 b))
+-- the theorem speaks of these runs: the `ack 1 7` of B with the label 7, at 21, stands behind the start of a request with that label, a told report and a respond
+pub b-witnessed : Witnessed 0 (Acked 0 1 7) (take 21 (history 2 (b 7)))
 unfolding step look play outcome Actions.request Actions.arbitrate Actions.respond Actions.clock Actions.carry Actions.grant Actions.gap Actions.reset output arrives hears clean moveOf read valid phaseFits cellFits modeFits
-b-witnessed = every-ack-of 2 (lit≤ tt) (lit≤ tt) b (take 21 (history 2 b)) (drop 22 (history 2 b)) (Carry Pass) 0 1 refl
+b-witnessed = every-confirmation-of 2 (lit≤ tt) (lit≤ tt) (b 7) (take 21 (history 2 (b 7))) (drop 22 (history 2 (b 7))) (Carry Pass) (Acked 0 1 7) 0 refl refl
 
--- an acknowledged reply: the `ack 2` at 42 stands behind a request that started at once
-pub reply-witnessed : Witnessed 1 2 (take 42 (history 2 reply))
+-- an acknowledged reply: the `ack 2 8` at 42 stands behind a request that started at once
+pub reply-witnessed : Witnessed 1 (Acked 1 2 8) (take 42 (history 2 reply))
 unfolding step look play outcome Actions.request Actions.arbitrate Actions.respond Actions.clock Actions.carry Actions.grant Actions.gap Actions.reset output arrives hears clean moveOf read valid phaseFits cellFits modeFits
-reply-witnessed = every-ack-of 2 (lit≤ tt) (lit≤ tt) reply (take 42 (history 2 reply)) (drop 43 (history 2 reply)) (Carry Pass) 1 2 refl
+reply-witnessed = every-confirmation-of 2 (lit≤ tt) (lit≤ tt) reply (take 42 (history 2 reply)) (drop 43 (history 2 reply)) (Carry Pass) (Acked 1 2 8) 1 refl refl
 
 -- the mark of the bus: set by the Prefix at 20, cleared by the last Gap
 pub reply-marks : map (λ k. after (fresh 2) (take k reply) .concatenated) (20 ∷ 21 ∷ 44 ∷ 45 ∷ []) ≡ false ∷ true ∷ true ∷ false ∷ []
@@ -226,27 +243,48 @@ refused s x k = record { handed = s; action = x; number = k }
 
 abbrev pub refusals : List Refusal
 refusals =
-    refused (fresh 2) (act 0 0 0 0 0 0 0) 2  -- kind 0
-    ∷ refused (fresh 2) (act 11 0 0 0 0 0 0) 2
-    ∷ refused (fresh 2) (act 10 1 0 0 0 0 0) 3  -- reset with node 1
+    refused (fresh 2) (act 0 0 0 0 0 0 0 0) 2  -- kind 0
+    ∷ refused (fresh 2) (act 11 0 0 0 0 0 0 0) 2
+    ∷ refused (fresh 2) (act 10 1 0 0 0 0 0 0) 3  -- reset with node 1
     ∷ refused (fresh 2) (clock 2) 4  -- n = 2, clock 2
-    ∷ refused (fresh 2) (request 0 2 0 0) 5  -- n = 2, request to 2
+    ∷ refused (fresh 2) (request 0 2 0 0 0) 5  -- n = 2, request to 2
+    ∷ refused (fresh 2) (request 0 1 64 0 0) 13  -- label over 63
+    ∷ refused (fresh 2) (act 4 0 0 0 0 1 0 0) 3  -- a label that the kind doesn't name
     ∷ refused (fresh 2) (respond 0 16 0) 6  -- respond 16
     ∷ refused (fresh 2) (respond 0 0 2) 6
-    ∷ refused (after (fresh 2) (take 13 b)) lose 7  -- lose on End
+    ∷ refused (after (fresh 2) (take 13 (b 0))) lose 7  -- lose on End
     ∷ refused (fresh 2) reset 7
     ∷ refused (fresh 0) reset 12  -- state with n = 0
     ∷ refused (fresh 64) reset 12
-    -- "A step looks at 12, then 2 to 7": each of these has two faults
-    ∷ refused (fresh 0) (act 0 0 0 0 0 0 0) 12
-    ∷ refused (fresh 2) (act 0 1 0 0 0 0 0) 2
-    ∷ refused (fresh 2) (act 4 2 1 0 0 0 0) 3
-    ∷ refused (fresh 2) (request 2 2 0 0) 4
+    -- "A step looks at 12, then 2 to 7" (13 "after 5"): each of these has two faults
+    ∷ refused (fresh 0) (act 0 0 0 0 0 0 0 0) 12
+    ∷ refused (fresh 2) (act 0 1 0 0 0 0 0 0) 2
+    ∷ refused (fresh 2) (act 4 2 1 0 0 0 0 0) 3
+    ∷ refused (fresh 2) (request 2 2 0 0 0) 4
+    ∷ refused (fresh 2) (request 0 2 64 0 0) 5
+    ∷ refused (after (fresh 2) (take 13 (b 0))) (request 0 1 64 0 0) 13
     ∷ []
 
 pub refusals-hold : map (λ (r : Refusal). step (r .handed) (r .action) .number) refusals ≡ map (λ (r : Refusal). r .number) refusals
 unfolding step look play outcome Actions.request Actions.arbitrate Actions.respond Actions.clock Actions.carry Actions.grant Actions.gap Actions.reset output arrives hears clean moveOf read valid phaseFits cellFits modeFits
 refusals-hold = refl
+
+-- a bus of two nodes with the label x at each place that can hold one: in a full buffer, in the packet being sent, in a header that a mode remembers, in the Header under way
+abbrev labelled : ℕ → Packet
+labelled x = record { to = 0; head = head 0 x; datum = 0 }
+
+abbrev pub holding : ℕ → List State
+holding x =
+    map (moved (fresh 2) Idle 1)
+    (setBuffer (Full (labelled x)) freshCell ∷ setSending (labelled x) freshCell ∷ setMode (BodyOwn (head 0 x)) freshCell ∷ setMode (BodyAll (head 0 x)) freshCell
+    ∷ setMode (TailOwn (head 0 x) (D.Good 0)) freshCell ∷ setMode (TailOwn (head 0 x) D.Bad) freshCell
+    ∷ setMode (TailAll (head 0 x) (D.Good 0)) freshCell ∷ setMode (TailAll (head 0 x) D.Bad) freshCell ∷ [])
+    ++ map (λ c. moved (fresh 2) (Delivering 0 (Header (head 0 x) c) 1) 1 freshCell) (true ∷ false ∷ [])
+
+-- "A state handed in that holds a label over 63 is refused by 12": 64 is, at each place; with 63 the step goes on, to 7
+pub labels-looked-at : (map (λ s. step s reset .number) (holding 64) ≡ replicate 10 12) × (map (λ s. step s reset .number) (holding 63) ≡ replicate 10 7)
+unfolding step look play outcome Actions.request Actions.arbitrate Actions.respond Actions.clock Actions.carry Actions.grant Actions.gap Actions.reset output arrives hears clean moveOf read valid phaseFits cellFits modeFits
+labels-looked-at = (refl, refl)
 
 -- "A refused step returns the number, the state handed in and no report": at every state and record
 pub refused-keeps : (s : State) (x : Action) → isAccepted (step s x) ≡ false → step s x ≡ refuses s (step s x .number)

@@ -33,6 +33,7 @@ use Rattle.charts.specs.Arrivals as Arrivals
 use Rattle.charts.specs.State.{State, pendings, holders, some, others, lowest, isIdle, isBusy, isGranting, isEmpty}
 use Rattle.charts.specs.Actions as Actions
 use Rattle.charts.specs.Actions.{Outcome, does, when, mayAnswer}
+use Rattle.charts.specs.Signals.{noHead}
 use Rattle.charts.specs.Records.{clean, moveOf, read}
 use Rattle.charts.specs.Valid.{valid}
 use Rattle.charts.specs.Step.{carryOut, about, comesTo, play, look, stepWith, step, isAccepted}
@@ -67,10 +68,10 @@ clear-answers m h a z = go (eqb (placeOf m) P.sending) refl
 
 -- records of the actions that are found open
 abbrev bare : ℕ → ℕ → ℕ → Action
-bare k i a = record { kind = k; node = i; address = a; ack = 0; hold = 0; byte5 = 0; byte6 = 0; byte7 = 0; header = 0; datum = 0 }
+bare k i a = record { kind = k; node = i; address = a; ack = 0; hold = 0; label = 0; byte6 = 0; byte7 = 0; header = 0; datum = 0 }
 
 abbrev nothing-to : ℕ → Packet
-nothing-to a = record { to = a; head = record { header = 0 }; datum = 0 }
+nothing-to a = record { to = a; head = noHead; datum = 0 }
 
 module _ (s : State) (v : valid s ≡ true) where
   abbrev Found : Type 0

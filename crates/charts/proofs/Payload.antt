@@ -34,7 +34,7 @@ use Rattle.charts.specs.Signals.{everybody, classOf, kindOf, closes, hea
 use Rattle.charts.specs.Reception.{hears, falls}
 use Rattle.charts.specs.Arrivals.{passed}
 use Rattle.charts.specs.State.{State, every, some, others, pendings, holders, moved, remarked, fresh}
-use Rattle.charts.specs.Actions.{does, firstOther, nextOther, onward, granted, putsOut, markingBy, markingAtIdle}
+use Rattle.charts.specs.Actions.{does, firstOther, nextOther, onward, receives, granted, putsOut, markingBy, markingAtIdle}
 use Rattle.charts.proofs.Tools.{never, clash, implies, implied, and-true, or-false, or-no, or-yes, pick, pick-by, at-upd, at-upd≢, mem, everyIn, mem-sub, by-test}
 use Rattle.charts.specs.Words as W
 use Rattle.charts.specs.Words.{wordOf}
@@ -142,7 +142,7 @@ prefix-says p (Data d c) e = absurd (omega arith)
 prefix-says p (Ack a c) e = tt
 
 -- HEARING
-module _ (p : Packet) (k : ℕ) (w : Bool) where
+module _ (p : Packet) (k label : ℕ) (w : Bool) where
   -- what a node comes to by hearing: it remembers what it may, and tells of p only
   abbrev Fine : Heard → Type 0
   Fine x = (Bears p k w (x .mode)) × (Tells p (x .report))
@@ -153,16 +153,16 @@ module _ (p : Packet) (k : ℕ) (w : Bool) where
   falling : (c : ℕ) → Fine (falls Silent Silent c)
   falling c = pick Fine (eqb c S.gap) _ _ (plain refl refl) (plain refl refl)
 
-  heard : {m : Mode} (g : Signal) → Says p w g → Bears p k w m → Fine (hears k m g)
+  heard : {m : Mode} (g : Signal) → Says p w g → Bears p k w m → Fine (hears k label m g)
   unfolding hears
   heard g z (nothing {m = m} e) =
       by-test (eqb (placeOf m) P.addressed)
-      (λ q. subst (λ (m : Mode). Fine (hears k m g)) (sym (mode-is m P.addressed (eqb-true _ _ q)))
+      (λ q. subst (λ (m : Mode). Fine (hears k label m g)) (sym (mode-is m P.addressed (eqb-true _ _ q)))
       (pick-by Fine (eqb (classOf k g) S.destOwn) _ _ (λ e. (led-own (λ o. sym (subst (Says p w) (signal-is k g S.destOwn e) z o)), told-none refl)) λ n.
       pick-by Fine (eqb (classOf k g) S.destAll) _ _ (λ e. (led-all (λ o. sym (subst (Says p w) (signal-is k g S.destAll e) z o)), told-none refl)) λ n.
       falling (classOf k g)))
       (λ q. let y = and-true _ _ (implied _ _ (implied _ _
-      (law (λ y p c. implies (not (eqb p P.addressed)) (implies (mem p blank) (mem (y .place) blank && ltb (y .word) W.good))) tt k m g) (ap not q)) e) in plain (y .0) (y .1))
+      (law (λ y p c. implies (not (eqb p P.addressed)) (implies (mem p blank) (mem (y .place) blank && ltb (y .word) W.good))) tt k label m g) (ap not q)) e) in plain (y .0) (y .1))
   heard g z (led-own f) =
       pick-by Fine (eqb (classOf k g) S.headerGood) _ _ (λ e. let y = subst (Says p w) (signal-is k g S.headerGood e) z in (head-own (f (y .0 refl)) (y .1), told-none refl)) (λ e. plain refl refl)
   heard g z (led-all f) =
@@ -179,7 +179,7 @@ module _ (p : Packet) (k : ℕ) (w : Bool) where
   heard g z (tail-all {d = D.Good d} a h r) = pick Fine (closes (classOf k g)) _ _ (nothing refl, told-broad a) (falling (classOf k g))
   heard g z (tail-all {d = D.Bad} a h r) = pick Fine (closes (classOf k g)) _ _ (plain refl refl) (falling (classOf k g))
   heard g z (answers {m = m} e a) =
-      let y = and-true _ _ (implied _ _ (law (λ y p c. implies (mem p answerers) (mem (y .place) answerers && ltb (y .word) W.good)) tt k m g) e) in (answers (y .0) a, told-none (y .1))
+      let y = and-true _ _ (implied _ _ (law (λ y p c. implies (mem p answerers) (mem (y .place) answerers && ltb (y .word) W.good)) tt k label m g) e) in (answers (y .0) a, told-none (y .1))
 
 -- what arrives of a signal of p says what it may, and the mark that it leaves spoils nothing that the node remembers
 passed-says : (p : Packet) (w : Bool) (g : Signal) → Says p false g → Says p (w || false) (passed w g)
@@ -272,14 +272,14 @@ module _ (p : Packet) (s : State) (v : Carry p s) where
 
   -- node j hears the signal t and is marked by b
   hear : (ph : Phase) (j : ℕ) (t : Signal) (c : Cell) (b : Bool) → j < s .n → SaysAt p ph → Says p (s .cell j .misled || b) t →
-      c .mode ≡ hears j (s .cell j .mode) t .mode → c .misled ≡ s .cell j .misled || b → c .sending ≡ s .cell j .sending →
-      Carries p (hears j (s .cell j .mode) t .report) (moved s ph j c)
+      c .mode ≡ receives hears j (s .cell j) t .mode → c .misled ≡ s .cell j .misled || b → c .sending ≡ s .cell j .sending →
+      Carries p (receives hears j (s .cell j) t .report) (moved s ph j c)
   hear ph j t c b l z y e f h =
-      let x = heard p j (s .cell j .misled || b) t y (marked b (v .all j l)) in
+      let x = heard p j _ (s .cell j .misled || b) t y (marked b (v .all j l)) in
       record {
         packet = p;
         carry = changes ph j c z (rw (e, f) (x .0))
-            (λ q. h ∙ v .own j l (implied _ _ (law (λ y p c. implies (sends (y .place)) (sends p)) tt j (s .cell j .mode) t) (sym (ap (λ m. sends (placeOf m)) e) ∙ q)));
+            (λ q. h ∙ v .own j l (implied _ _ (law (λ y p c. implies (sends (y .place)) (sends p)) tt j _ (s .cell j .mode) t) (sym (ap (λ m. sends (placeOf m)) e) ∙ q)));
         tells = x .1;
       }
 

@@ -18,7 +18,7 @@ use Rattle.charts.specs.declared.Entry.{Entry}
 use Rattle.charts.specs.Modes as P
 use Rattle.charts.specs.Modes.{placeOf}
 use Rattle.charts.specs.Signals as S
-use Rattle.charts.specs.Signals.{classOf, isLine, closes}
+use Rattle.charts.specs.Signals.{classOf, isLine, closes, noHead}
 use Rattle.charts.specs.State.{every}
 use Rattle.charts.specs.Reception.{answer, hears}
 use Rattle.charts.specs.Places.{stepIn, ackIn, holdIn, headIn, datumIn, modes}
@@ -117,31 +117,31 @@ arms : (b : Bool) (x y u v : Heard) → entryOf x ≡ entryOf u → entryOf y �
 arms true x y u v p q = p
 arms false x y u v p q = q
 
-pub key : (me : ℕ) (m : Mode) (c : ℕ) (s : Signal) → entryOf (answer me m c s) ≡ entry (placeOf m) c
-key me Rest c s = refl
-key me AwaitAck c s = arms (eqb c S.prefix) _ _ _ _ refl (arms (eqb c S.start) _ _ _ _ refl (arms (eqb c S.gap) _ _ _ _ refl refl))
-key me AckBody c s = arms (eqb c S.gap) _ _ _ _ refl (arms (isLine c) _ _ _ _ refl (arms (eqb c S.ackGood) _ _ _ _ refl refl))
-key me (AckEnd (Sn.Ack a)) c s = arms (eqb c S.end) _ _ _ _ refl (arms (eqb c S.prefix) _ _ _ _ refl (arms (eqb c S.gap) _ _ _ _ refl refl))
-key me (AckEnd Sn.Nothing) c s = arms (eqb c S.gap) _ _ _ _ refl refl
-key me Opened c s = refl
-key me Addressed c s = refl
-key me HeadOwn c s = arms (eqb c S.headerGood) _ _ _ _ refl refl
-key me HeadAll c s = arms (eqb c S.headerGood) _ _ _ _ refl refl
-key me (BodyOwn h) c s = arms (eqb c S.dataGood) _ _ _ _ refl (arms (eqb c S.dataBad) _ _ _ _ refl refl)
-key me (BodyAll h) c s = arms (eqb c S.dataGood) _ _ _ _ refl (arms (eqb c S.dataBad) _ _ _ _ refl refl)
-key me (TailOwn h (D.Good d)) c s = arms (closes c) _ _ _ _ refl refl
-key me (TailOwn h D.Bad) c s = arms (closes c) _ _ _ _ refl refl
-key me (TailAll h (D.Good d)) c s = arms (closes c) _ _ _ _ refl refl
-key me (TailAll h D.Bad) c s = arms (closes c) _ _ _ _ refl refl
-key me Wait c s = refl
-key me Owed c s = refl
-key me (Sending k) c s = refl
-key me Told c s = refl
-key me Answering c s = refl
-key me (Acking k a b) c s = refl
-key me Holding c s = refl
-key me Spurious c s = refl
-key me Listening c s = refl
+pub key : (me label : ℕ) (m : Mode) (c : ℕ) (s : Signal) → entryOf (answer me label m c s) ≡ entry (placeOf m) c
+key me label Rest c s = refl
+key me label AwaitAck c s = arms (eqb c S.prefix) _ _ _ _ refl (arms (eqb c S.start) _ _ _ _ refl (arms (eqb c S.gap) _ _ _ _ refl refl))
+key me label AckBody c s = arms (eqb c S.gap) _ _ _ _ refl (arms (isLine c) _ _ _ _ refl (arms (eqb c S.ackGood) _ _ _ _ refl refl))
+key me label (AckEnd (Sn.Ack a)) c s = arms (eqb c S.end) _ _ _ _ refl (arms (eqb c S.prefix) _ _ _ _ refl (arms (eqb c S.gap) _ _ _ _ refl refl))
+key me label (AckEnd Sn.Nothing) c s = arms (eqb c S.gap) _ _ _ _ refl refl
+key me label Opened c s = refl
+key me label Addressed c s = refl
+key me label HeadOwn c s = arms (eqb c S.headerGood) _ _ _ _ refl refl
+key me label HeadAll c s = arms (eqb c S.headerGood) _ _ _ _ refl refl
+key me label (BodyOwn h) c s = arms (eqb c S.dataGood) _ _ _ _ refl (arms (eqb c S.dataBad) _ _ _ _ refl refl)
+key me label (BodyAll h) c s = arms (eqb c S.dataGood) _ _ _ _ refl (arms (eqb c S.dataBad) _ _ _ _ refl refl)
+key me label (TailOwn h (D.Good d)) c s = arms (closes c) _ _ _ _ refl refl
+key me label (TailOwn h D.Bad) c s = arms (closes c) _ _ _ _ refl refl
+key me label (TailAll h (D.Good d)) c s = arms (closes c) _ _ _ _ refl refl
+key me label (TailAll h D.Bad) c s = arms (closes c) _ _ _ _ refl refl
+key me label Wait c s = refl
+key me label Owed c s = refl
+key me label (Sending k) c s = refl
+key me label Told c s = refl
+key me label Answering c s = refl
+key me label (Acking k a b) c s = refl
+key me label Holding c s = refl
+key me label Spurious c s = refl
+key me label Listening c s = refl
 
 pub class-lt : (me : ℕ) (s : Signal) → classOf me s < 14
 class-lt me Start = lit< tt
@@ -155,10 +155,10 @@ class-lt me (Data d good) = pick (λ c. c < 14) good _ _ (lit< tt) (lit< tt)
 class-lt me (Ack a good) = pick (λ c. c < 14) good _ _ (lit< tt) (lit< tt)
 
 -- a test of what a node comes to, of the place of its mode and of the signal's class, that passes at all pairs, holds of every node and signal
-pub law : (f : Entry → ℕ → ℕ → Bool) → T (everyPair (λ p c. f (entry p c) p c) 24 14) → (me : ℕ) (m : Mode) (s : Signal) → f (entryOf (hears me m s)) (placeOf m) (classOf me s) ≡ true
+pub law : (f : Entry → ℕ → ℕ → Bool) → T (everyPair (λ p c. f (entry p c) p c) 24 14) → (me label : ℕ) (m : Mode) (s : Signal) → f (entryOf (hears me label m s)) (placeOf m) (classOf me s) ≡ true
 unfolding hears
-law f t me m s =
-    subst (λ y. f y (placeOf m) (classOf me s) ≡ true) (sym (key me m (classOf me s) s))
+law f t me label m s =
+    subst (λ y. f y (placeOf m) (classOf me s) ≡ true) (sym (key me label m (classOf me s) s))
     (pairs-at (λ p c. f (entry p c) p c) 24 14 t (placeOf m) (classOf me s) (place-lt m) (class-lt me s))
 
 -- a node in such a mode is pending; is a holder; has a packet of its own half read
@@ -172,28 +172,28 @@ abbrev pub half : ℕ → Bool
 half p = mem p (P.headOwn ∷ P.bodyOwn ∷ P.tailOwnGood ∷ P.tailOwnBad ∷ [])
 
 -- a node owes what it owed before, or what it pends for now; nobody becomes or stops being a holder by hearing
-pub owes : (me : ℕ) (m : Mode) (s : Signal) → owing (placeOf (hears me m s .mode)) ≡ owing (placeOf m) || hears me m s .pends
-owes me m s = beq-eq _ _ (law (λ y p c. Bool·beq (owing (y .place)) (owing p || y .pends)) tt me m s)
+pub owes : (me label : ℕ) (m : Mode) (s : Signal) → owing (placeOf (hears me label m s .mode)) ≡ owing (placeOf m) || hears me label m s .pends
+owes me label m s = beq-eq _ _ (law (λ y p c. Bool·beq (owing (y .place)) (owing p || y .pends)) tt me label m s)
 
-pub acts : (me : ℕ) (m : Mode) (s : Signal) → active (placeOf (hears me m s .mode)) ≡ active (placeOf m)
-acts me m s = beq-eq _ _ (law (λ y p c. Bool·beq (active (y .place)) (active p)) tt me m s)
+pub acts : (me label : ℕ) (m : Mode) (s : Signal) → active (placeOf (hears me label m s .mode)) ≡ active (placeOf m)
+acts me label m s = beq-eq _ _ (law (λ y p c. Bool·beq (active (y .place)) (active p)) tt me label m s)
 
 -- who will not hold the bus does not come to by hearing
-pub hears-no-hold : (me : ℕ) (m : Mode) (s : Signal) → holdIn m ≡ false → holdIn (hears me m s .mode) ≡ false
+pub hears-no-hold : (me label : ℕ) (m : Mode) (s : Signal) → holdIn m ≡ false → holdIn (hears me label m s .mode) ≡ false
 unfolding hears
-hears-no-hold me m s =
+hears-no-hold me label m s =
     by-test (eqb (placeOf m) P.acking)
-    (λ q. subst (λ (m : Mode). holdIn m ≡ false → holdIn (hears me m s .mode) ≡ false) (sym (mode-is m P.acking (eqb-true _ _ q))) (λ e. e))
-    (λ q e. no-hold (hears me m s .mode) (not-implied _ _ (law (λ y p c. implies (eqb (y .place) P.acking) (eqb p P.acking)) tt me m s) q))
+    (λ q. subst (λ (m : Mode). holdIn m ≡ false → holdIn (hears me label m s .mode) ≡ false) (sym (mode-is m P.acking (eqb-true _ _ q))) (λ e. e))
+    (λ q e. no-hold (hears me label m s .mode) (not-implied _ _ (law (λ y p c. implies (eqb (y .place) P.acking) (eqb p P.acking)) tt me label m s) q))
 
 -- after an End no packet is half read
-pub ended : (me : ℕ) (m : Mode) → half (placeOf (hears me m End .mode)) ≡ false
-ended me m = not-true _ (law (λ y p c. implies (eqb c S.end) (not (half (y .place)))) tt me m End)
+pub ended : (me label : ℕ) (m : Mode) → half (placeOf (hears me label m End .mode)) ≡ false
+ended me label m = not-true _ (law (λ y p c. implies (eqb c S.end) (not (half (y .place)))) tt me label m End)
 
 -- a Gap makes nobody owe, and frees nobody who does; a node that neither owes nor holds is at rest after it
-pub gap-owes : (me : ℕ) (m : Mode) → owing (placeOf (hears me m Gap .mode)) ≡ owing (placeOf m)
-gap-owes me m = beq-eq _ _ (law (λ y p c. implies (eqb c S.gap) (Bool·beq (owing (y .place)) (owing p))) tt me m Gap)
+pub gap-owes : (me label : ℕ) (m : Mode) → owing (placeOf (hears me label m Gap .mode)) ≡ owing (placeOf m)
+gap-owes me label m = beq-eq _ _ (law (λ y p c. implies (eqb c S.gap) (Bool·beq (owing (y .place)) (owing p))) tt me label m Gap)
 
-pub gap-rests : (me : ℕ) (m : Mode) → owing (placeOf m) ≡ false → active (placeOf m) ≡ false → placeOf (hears me m Gap .mode) ≡ P.rest
-gap-rests me m o a =
-    eqb-true _ _ (rw (o, a) at (law (λ y p c. implies (eqb c S.gap) (implies (not (owing p)) (implies (not (active p)) (eqb (y .place) P.rest)))) tt me m Gap))
+pub gap-rests : (me label : ℕ) (m : Mode) → owing (placeOf m) ≡ false → active (placeOf m) ≡ false → placeOf (hears me label m Gap .mode) ≡ P.rest
+gap-rests me label m o a =
+    eqb-true _ _ (rw (o, a) at (law (λ y p c. implies (eqb c S.gap) (implies (not (owing p)) (implies (not (active p)) (eqb (y .place) P.rest)))) tt me label m Gap))

@@ -28,7 +28,7 @@ use Rattle.charts.specs.Signals.{kindOf, isEnd}
 use Rattle.charts.specs.Places.{stepIn, holdIn}
 use Rattle.charts.specs.Reception.{hears}
 use Rattle.charts.specs.State.{State, pendings, holders, upd, some, others, lowest, every, moved, concatenatedAfter, remarked}
-use Rattle.charts.specs.Actions.{does, firstOther, nextOther, putsOut, freed, afterFree, onward, granted, afterGrant, mayAnswer, markingBy}
+use Rattle.charts.specs.Actions.{receives, does, firstOther, nextOther, putsOut, freed, afterFree, onward, granted, afterGrant, mayAnswer, markingBy}
 use Rattle.charts.specs.Demand.{forward}
 use Rattle.charts.proofs.Tools.{never, clash, implies, implied, not-implied, and-true, neither, or-true, pick-by, at-upd, at-upd≢, upd-same, upd-other, upd-map, none-of, some-at, some-agree, others-off, lowest-of, lowest-lt, table-at, mem, everyIn, mem-sub, not-mem-sub, mem-two, pick, by-test}
 use Rattle.charts.proofs.Places.{law, law-mode, owing, active, owes, acts, gap-owes, stepOf, no-hold, hears-no-hold, place-lt, sendingAt, ackingAt}
@@ -195,7 +195,7 @@ module _ (s : State) (v : Reach s) where
   own-marks m i r p c x (gives e u) = (ms i .0 ∙ ap (λ m. owing (placeOf m)) e, ms i .1 ∙ ap (λ m. active (placeOf m)) e)
   own-marks m i r p c x (puts {g = g} {m = m′} q h o y) = let z = puts-marks i (s .cell i .sending) (s .cell i .mode) g m′ r y in (ms i .0 ∙ z .0 ∙ sym (z .1), z .2)
   own-marks m i r p c x (frees q h e) = (ms i .0 ∙ ap (λ m. owing (placeOf m)) e, refl)
-  own-marks m i r p c x (arrives {t = t} q y) = (ap (λ b. b || hears i (s .cell i .mode) t .pends) (ms i .0) ∙ sym (owes i (s .cell i .mode) t), ms i .1 ∙ sym (acts i (s .cell i .mode) t))
+  own-marks m i r p c x (arrives {t = t} q y) = (ap (λ b. b || receives hears i (s .cell i) t .pends) (ms i .0) ∙ sym (owes i _ (s .cell i .mode) t), ms i .1 ∙ sym (acts i _ (s .cell i .mode) t))
   own-marks m i r p c x (drops q e) = ms i
   own-marks m i r p c x (grants q e l) = let g = is-granted (s .cell i .mode) whole in (sym (g .frees), sym (g .holds))
     where
@@ -206,8 +206,8 @@ module _ (s : State) (v : Reach s) where
       whole = owes-whole (s .cell i .mode) (at .steps i (subst (λ i. i < s .n) l (lowest-lt (pendings (s .cell)) (s .n) 0 e)))
           (sym (ms i .0) ∙ subst (λ i. s .cell i .pending ≡ true) l (lowest-of (pendings (s .cell)) (s .n) 0 e))
   own-marks m i r p c x (grants-none q e) = ms i
-  own-marks m i r p c x (gaps q u) = (ms i .0 ∙ sym (gap-owes i (s .cell i .mode)), ms i .1 ∙ sym (acts i (s .cell i .mode) Gap))
-  own-marks m i r p c x (settles q u) = (ms i .0 ∙ sym (gap-owes i (s .cell i .mode)), ms i .1 ∙ sym (acts i (s .cell i .mode) Gap))
+  own-marks m i r p c x (gaps q u) = (ms i .0 ∙ sym (gap-owes i _ (s .cell i .mode)), ms i .1 ∙ sym (acts i _ (s .cell i .mode) Gap))
+  own-marks m i r p c x (settles q u) = (ms i .0 ∙ sym (gap-owes i _ (s .cell i .mode)), ms i .1 ∙ sym (acts i _ (s .cell i .mode) Gap))
   own-marks m i r p c x (resets q) = ms i
 
   pub marks-kept : (m : Move) (i : ℕ) (r : Report) (p : Phase) (c : Cell) (x : Marking) → Effect s m i (does r p c x) → (k : ℕ) → Marks (remarked x (moved s p i c) .cell k)
@@ -237,12 +237,12 @@ module _ (s : State) (v : Reach s) where
   own-last m i r p c x l (gives {h = h} e u) z = not-true h (sym (ap (λ b. mayAnswer b h) z) ∙ u)
   own-last m i r p c x l (puts {g = g} {m = m′} q h o y) z = puts-last i l (s .cell i .mode) g m′ r refl y z
   own-last m i r p c x l (frees q h e) z = refl
-  own-last m i r p c x l (arrives {t = t} q y) z = hears-no-hold i (s .cell i .mode) t (v .last z i l)
+  own-last m i r p c x l (arrives {t = t} q y) z = hears-no-hold i _ (s .cell i .mode) t (v .last z i l)
   own-last m i r p c x l (drops q e) z = v .last z i l
   own-last m i r p c x l (grants q e u) z =
       pick (λ (m : Mode). holdIn m ≡ false) (isTold (s .cell i .mode)) _ _ refl (pick (λ (m : Mode). holdIn m ≡ false) (isOwed (s .cell i .mode)) _ _ refl (v .last z i l))
   own-last m i r p c x l (grants-none q e) z = v .last z i l
-  own-last m i r p c x l (gaps q u) z = hears-no-hold i (s .cell i .mode) Gap (v .last z i l)
+  own-last m i r p c x l (gaps q u) z = hears-no-hold i _ (s .cell i .mode) Gap (v .last z i l)
   own-last m i r p c x l (settles q u) z = never z
   own-last m i r p c x l (resets q) z = v .last z i l
 
@@ -1012,8 +1012,8 @@ module _ (s : State) (v : Reach s) where
     abbrev gapped : ℕ → Cell
     gapped = upd (s .cell) j x
 
-    rested : placeOf (hears j (s .cell j .mode) Gap .mode) ≡ P.rest
-    rested = eqb-true _ _ (implied (mem (placeOf (s .cell j .mode)) quiet) _ (law (λ y p c. implies (eqb c S.gap) (implies (mem p quiet) (eqb (y .place) P.rest))) tt j (s .cell j .mode) Gap) (a .calm j (a .gap-lt)))
+    rested : placeOf (receives hears j (s .cell j) Gap .mode) ≡ P.rest
+    rested = eqb-true _ _ (implied (mem (placeOf (s .cell j .mode)) quiet) _ (law (λ y p c. implies (eqb c S.gap) (implies (mem p quiet) (eqb (y .place) P.rest))) tt j _ (s .cell j .mode) Gap) (a .calm j (a .gap-lt)))
 
     low : (k : ℕ) → k < s .n → k < suc j → placeOf (gapped k .mode) ≡ P.rest
     low k l z = at-upd≢ (λ k c. k < s .n → k < suc j → placeOf (c .mode) ≡ P.rest) (s .cell) j x k (λ l z. rested) (λ q l z. a .past k l (omega arith)) l z
@@ -1056,7 +1056,7 @@ module _ (s : State) (v : Reach s) where
       forward-it : {z : ℕ} {p : Phase} {f : ℕ → Cell} → Goes true z mark p (s .n) f → Goes (not (isAnswering (s .cell i .mode) || isHolding (s .cell i .mode))) z mark p (s .n) f
       forward-it {z} {p} {f} g = record { stage = g .stage; lower = λ e. g .lower refl }
   moves-on m i r p c x l (arrives {v = y} {w = w} {g = g} {t = t} {b = b} q z) = on-phase mark (s .n) (s .cell) (λ z. Goes true z (concatenatedAfter x mark) p (s .n) (upd (s .cell) i c)) (s .phase) (Delivering w g i) q (v .stage) λ a.
-      delivered-goes s w g i a c (heard-lands (a .d) (a .d-lt) i (s .cell i .mode) t (same-kind _ y g t b z ∙ a .kind) (a .before i (a .next-lt) (a .apart) (omega arith))) (λ k. at-upd (λ k c. Marks c) (s .cell) i c k (own-marks s v m i r p c x (arrives q z)) (v .marks k))
+      delivered-goes s w g i a c (heard-lands (a .d) (a .d-lt) i _ (s .cell i .mode) t (same-kind _ y g t b z ∙ a .kind) (a .before i (a .next-lt) (a .apart) (omega arith))) (λ k. at-upd (λ k c. Marks c) (s .cell) i c k (own-marks s v m i r p c x (arrives q z)) (v .marks k))
   moves-on m i r p c x l (drops {w = w} {g = g} q e) = on-phase mark (s .n) (s .cell) (λ z. Goes true z (concatenatedAfter x mark) p (s .n) (upd (s .cell) i c)) (s .phase) (Delivering w g i) q (v .stage) λ a.
       delivered-goes s w g i a c (lost-lands (a .d) (a .d-lt) (subst (λ q. leb 6 q ≡ true) (a .kind) e) (s .cell i .mode) (a .before i (a .next-lt) (a .apart) (omega arith)))
       (λ k. at-upd (λ k c. Marks c) (s .cell) i c k (v .marks i) (v .marks k))

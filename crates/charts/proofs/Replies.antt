@@ -80,8 +80,8 @@ remarked-spent M.Won t e h = record { marked = e; none = h }
 remarked-spent (M.Concatenated b) t e h = record { marked = e; none = h }
 
 -- nobody comes to Holding by hearing
-hears-none : (me : ℕ) (m : Mode) (g : Signal) → isHolding m ≡ false → isHolding (hears me m g .mode) ≡ false
-hears-none me m g e = not-implied _ _ (law (λ y p c. implies (eqb (y .place) P.holding) (eqb p P.holding)) tt me m g) e
+hears-none : (me label : ℕ) (m : Mode) (g : Signal) → isHolding m ≡ false → isHolding (hears me label m g .mode) ≡ false
+hears-none me label m g e = not-implied _ _ (law (λ y p c. implies (eqb (y .place) P.holding) (eqb p P.holding)) tt me label m g) e
 
 -- only Acking with hold 1 comes to Holding by what it puts out
 puts-none : (i : ℕ) (p : Packet) (m : Mode) (g : Signal) (m′ : Mode) (r : Report) → holdIn m ≡ false → isHolding m ≡ false → Puts i p m g m′ r → isHolding m′ ≡ false
@@ -129,13 +129,13 @@ module _ (s : State) (v : Reach s) where
     own-none m i r p c x l (gives e y) = refl
     own-none m i r p c x l (puts {g = g} {m = m′} q h o y) = puts-none i (s .cell i .sending) (s .cell i .mode) g m′ r (v .last (u .marked) i l) (u .none i l) y
     own-none m i r p c x l (frees q h e) = refl
-    own-none m i r p c x l (arrives {t = t} q y) = hears-none i (s .cell i .mode) t (u .none i l)
+    own-none m i r p c x l (arrives {t = t} q y) = hears-none i _ (s .cell i .mode) t (u .none i l)
     own-none m i r p c x l (drops q e) = u .none i l
     own-none m i r p c x l (grants q e y) =
         pick (λ (m : Mode). isHolding m ≡ false) (isTold (s .cell i .mode)) _ _ refl (pick (λ (m : Mode). isHolding m ≡ false) (isOwed (s .cell i .mode)) _ _ refl (u .none i l))
     own-none m i r p c x l (grants-none q e) = u .none i l
-    own-none m i r p c x l (gaps q y) = hears-none i (s .cell i .mode) Gap (u .none i l)
-    own-none m i r p c x l (settles q y) = hears-none i (s .cell i .mode) Gap (u .none i l)
+    own-none m i r p c x l (gaps q y) = hears-none i _ (s .cell i .mode) Gap (u .none i l)
+    own-none m i r p c x l (settles q y) = hears-none i _ (s .cell i .mode) Gap (u .none i l)
     own-none m i r p c x l (resets q) = u .none i l
 
     -- the bus stays marked up to Idle

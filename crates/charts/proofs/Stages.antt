@@ -318,10 +318,10 @@ pub record Lands (d p : ℕ) (m : Mode) : Type 0 where
   pub after : mem p (rowAt d .after) ≡ true
   pub sole : mem (placeOf m) (rowAt d .sole) ≡ false → mem p (rowAt d .sole) ≡ false
 
-pub heard-lands : (d : ℕ) → d < 22 → (me : ℕ) (m : Mode) (s : Signal) → kindOf s ≡ rowAt d .kind → mem (placeOf m) (rowAt d .before) ≡ true → Lands d (placeOf (hears me m s .mode)) m
+pub heard-lands : (d : ℕ) → d < 22 → (me label : ℕ) (m : Mode) (s : Signal) → kindOf s ≡ rowAt d .kind → mem (placeOf m) (rowAt d .before) ≡ true → Lands d (placeOf (hears me label m s .mode)) m
 unfolding leads
-heard-lands d h me m s e t =
-    let z = and-true _ _ (implied _ _ (law (leads d) (holds (table-at (λ d. everyPair (λ p c. leads d (entry p c) p c) 24 14) 22 all-lead d h)) me m s)
+heard-lands d h me label m s e t =
+    let z = and-true _ _ (implied _ _ (law (leads d) (holds (table-at (λ d. everyPair (λ p c. leads d (entry p c) p c) 24 14) 22 all-lead d h)) me label m s)
     (both _ _ t (subst (λ k. mem (classOf me s) (getD arrivals k []) ≡ true) e (comes me s)))) in
     record { after = z .0; sole = λ q. not-implied _ _ (z .1) q }
 

@@ -22,15 +22,15 @@ use Rattle.charts.specs.declared.Decoded.the-variants.{Refused, Accepted
 use Rattle.charts.specs.Numbers as N
 use Rattle.charts.specs.State.{State, pendings, remarked}
 use Rattle.charts.specs.Actions.{Outcome, closed, does, nextOf}
-use Rattle.charts.specs.Records.{isKind, namesNode, namesAddress, clean, isAddress, moveOf, read}
-use Rattle.charts.specs.Valid.{isSize, isAck, phaseFits, cellFits, valid}
+use Rattle.charts.specs.Records.{isKind, namesNode, namesAddress, clean, isAddress, isLabel, moveOf, read}
+use Rattle.charts.specs.Valid.{isSize, isAck, packetFits, phaseFits, cellFits, valid}
 use Rattle.charts.specs.Step.{Result, refuses, carryOut, about, comesTo, play, look, stepWith, step, after, Event, refusal, accepted, eventOf}
-use Rattle.charts.proofs.Tools.{never, and-true, pick-by, lowest-below, every-at}
+use Rattle.charts.proofs.Tools.{never, and-true, both, pick-by, lowest-below, every-at}
 use Rattle.charts.proofs.Ways.{Effect, effect}
 
--- the fields of a move are in their ranges: the node below n, the address an address, the acknowledgement at most 15
+-- the fields of a move are in their ranges: the node below n, the address an address, the label at most 63, the acknowledgement at most 15
 abbrev pub Known : ℕ → Move → Type 0
-Known n (Request i p) = (i < n) × (isAddress n (p .to) ≡ true)
+Known n (Request i p) = (i < n) × (packetFits n p ≡ true)
 Known n (Arbitrate i) = i < n
 Known n (Respond i a h) = (i < n) × (isAck a ≡ true)
 Known n (Clock i) = i < n
@@ -45,15 +45,15 @@ implied-or : (a b : Bool) → a && not b ≡ false → a ≡ true → b ≡ true
 implied-or true b e q = not-false b e
 implied-or false b e q = never q
 
--- 2 to 6: a refusal has a number other than 0, and what is accepted is the record's action with its fields in range
+-- 2 to 6 and 13: a refusal has a number other than 0, and what is accepted is the record's action with its fields in range
 pub data Decodes (n : ℕ) (a : Action) : Decoded → Type 0 where
   turned : {k : ℕ} → eqb k N.accepted ≡ false → Decodes n a (Refused k)
   taken : Known n (moveOf a) → Decodes n a (Accepted (moveOf a))
 
-move-known : (n : ℕ) (a : Action) → (namesNode (a .kind) ≡ true → a .node < n) → (namesAddress (a .kind) ≡ true → isAddress n (a .address) ≡ true) → isAck (a .ack) ≡ true → Known n (moveOf a)
+move-known : (n : ℕ) (a : Action) → (namesNode (a .kind) ≡ true → a .node < n) → (namesAddress (a .kind) ≡ true → isAddress n (a .address) ≡ true) → isLabel (a .label) ≡ true → isAck (a .ack) ≡ true → Known n (moveOf a)
 unfolding moveOf
-move-known n a node addr ack =
-    pick-by K (eqb k 1) _ _ (λ e. (node (ap namesNode (eqb-true k 1 e)), addr (ap namesAddress (eqb-true k 1 e)))) λ e1.
+move-known n a node addr label ack =
+    pick-by K (eqb k 1) _ _ (λ e. (node (ap namesNode (eqb-true k 1 e)), both (isAddress n (a .address)) _ (addr (ap namesAddress (eqb-true k 1 e))) label)) λ e1.
     pick-by K (eqb k 2) _ _ (λ e. node (ap namesNode (eqb-true k 2 e))) λ e2.
     pick-by K (eqb k 3) _ _ (λ e. (node (ap namesNode (eqb-true k 3 e)), ack)) λ e3.
     pick-by K (eqb k 4) _ _ (λ e. node (ap namesNode (eqb-true k 4 e))) λ e4.
@@ -76,8 +76,9 @@ decodes n a =
     pick-by (Decodes n a) (not (clean a)) _ _ (λ e. turned refl) λ e3.
     pick-by (Decodes n a) (namesNode (a .kind) && not (ltb (a .node) n)) _ _ (λ e. turned refl) λ e4.
     pick-by (Decodes n a) (namesAddress (a .kind) && not (isAddress n (a .address))) _ _ (λ e. turned refl) λ e5.
+    pick-by (Decodes n a) (not (isLabel (a .label))) _ _ (λ e. turned refl) λ e13.
     pick-by (Decodes n a) (not (ltb (a .ack) 16 && ltb (a .hold) 2)) _ _ (λ e. turned refl) λ e6.
-    taken (move-known n a (λ u. ltb-true (a .node) n (implied-or _ _ e4 u)) (implied-or _ _ e5) (and-true (ltb (a .ack) 16) _ (not-false _ e6) .0))
+    taken (move-known n a (λ u. ltb-true (a .node) n (implied-or _ _ e4 u)) (implied-or _ _ e5) (not-false _ e13) (and-true (ltb (a .ack) 16) _ (not-false _ e6) .0))
 
 -- 12
 pub record Valid (s : State) : Type 0 where

@@ -1,4 +1,4 @@
--- The second form of the acknowledgement claim (specs/Stretch.antt), from the first: what a book that is not wrong says of a node is found again in the list of events itself.
+-- The second form of the claim about confirmations (specs/Stretch.antt), from the first: what a book that is not wrong says of a node is found again in the list of events itself.
 -- `Story` is that reading of a book: where the waiting request was accepted, where the running one started, and that the notes since are those of the events since.
 use mathlib.Core.Path.{_≡_, refl, sym, ap, subst, _∙_}
 use mathlib.Core.Logic.{_⊎_, inl, inr}
@@ -22,10 +22,10 @@ use Rattle.charts.specs.declared.Action.{Action}
 use Rattle.charts.specs.State.{State, fresh}
 use Rattle.charts.specs.Actions.{does}
 use Rattle.charts.specs.Step.{Result, step, Event, refusal, accepted, eventOf, events}
-use Rattle.charts.specs.Demand.{Note, told, gave, Run, none, run, Confirmed, Book, newBook, asks, wins, confirms, note, notes, holdsFor, moverOf, nodeOf, moves, reports, enters, bookOf, Acknowledged, AllHonest, book}
+use Rattle.charts.specs.Demand.{Note, told, gave, Run, none, run, Confirmed, Book, newBook, asks, wins, confirms, note, notes, holdsFor, moverOf, nodeOf, moves, reports, enters, bookOf, Acknowledged, Honest, AllHonest, book}
 use Rattle.charts.specs.Stretch as Stretch
-use Rattle.charts.specs.Stretch.{heldBy, heldFrom, held, requestOf, wonOf, confirmationOf, noWon, noOther, Starts, at-once, by-won, Tells, good, dcrc, Gives, givesNone, quiet, Witnessed, EveryAck}
-use Rattle.charts.proofs.Tools.{both, neither, and-yes}
+use Rattle.charts.specs.Stretch.{heldBy, heldFrom, held, requestOf, wonOf, confirmationOf, noWon, noOther, Starts, at-once, by-won, Tells, good, dcrc, Gives, givesNone, quiet, Confirms, Witnessed, EveryConfirmation}
+use Rattle.charts.proofs.Tools.{never, both, neither, and-yes}
 use Rattle.charts.proofs.Ways as Ways
 use Rattle.charts.proofs.Ways.{Effect, waits, replies}
 use Rattle.charts.proofs.Steps as Steps
@@ -271,12 +271,12 @@ module _ (i : ℕ) (l : List Event) (b : Book) (v : Story i l b) where
     report true (Won j) q w = subst (λ j. Story i (l ++ (accepted m (Won j) ∷ [])) (wins (b .waiting) b)) (eqb-true i j q) (my-won (b .waiting) (v .waiting) w)
     report false (Won j) q w = passes i l _ b v (calm (Won j) q) (other (Won j) q refl) (both _ _ (s .no-respond) refl)
     report mine (Lost j) q w = passes i l _ b v (calm (Lost j) refl) (other (Lost j) refl refl) (both _ _ (s .no-respond) refl)
-    report true (Sent j) q w = confirmed i l _ b v (calm (Sent j) refl) (Sent j) (b .running) w
-    report false (Sent j) q w = passes i l _ b v (calm (Sent j) refl) (other (Sent j) refl q) (both _ _ (s .no-respond) refl)
-    report true (Acked j a) q w = confirmed i l _ b v (calm (Acked j a) refl) (Acked j a) (b .running) w
-    report false (Acked j a) q w = passes i l _ b v (calm (Acked j a) refl) (other (Acked j a) refl q) (both _ _ (s .no-respond) refl)
-    report true (Miss j) q w = confirmed i l _ b v (calm (Miss j) refl) (Miss j) (b .running) w
-    report false (Miss j) q w = passes i l _ b v (calm (Miss j) refl) (other (Miss j) refl q) (both _ _ (s .no-respond) refl)
+    report true (Sent j x) q w = confirmed i l _ b v (calm (Sent j x) refl) (Sent j x) (b .running) w
+    report false (Sent j x) q w = passes i l _ b v (calm (Sent j x) refl) (other (Sent j x) refl q) (both _ _ (s .no-respond) refl)
+    report true (Acked j a x) q w = confirmed i l _ b v (calm (Acked j a x) refl) (Acked j a x) (b .running) w
+    report false (Acked j a x) q w = passes i l _ b v (calm (Acked j a x) refl) (other (Acked j a x) refl q) (both _ _ (s .no-respond) refl)
+    report true (Miss j x) q w = confirmed i l _ b v (calm (Miss j x) refl) (Miss j x) (b .running) w
+    report false (Miss j x) q w = passes i l _ b v (calm (Miss j x) refl) (other (Miss j x) refl q) (both _ _ (s .no-respond) refl)
     report mine (Good j h d) q w = noted i l _ b v (calm (Good j h d) refl) (other (Good j h d) refl refl) (told (Good j h d)) tells
     report mine (Dcrc j h) q w = noted i l _ b v (calm (Dcrc j h) refl) (other (Dcrc j h) refl refl) (told (Dcrc j h)) tells
     report mine (Broad j h d) q w = noted i l _ b v (calm (Broad j h d) refl) (other (Broad j h d) refl refl) (told (Broad j h d)) tells
@@ -300,18 +300,7 @@ story n i x (e ∷ y) b s v w =
 
 -- 4. THE CLAIM
 -- two notes, a respond after a told report, are found in the events
-record Located (p : Packet) (a : ℕ) (l : List Event) : Type 0 where
-  first : List Event
-  tell : Event
-  second : List Event
-  give : Event
-  third : List Event
-  split : l ≡ first ++ (tell ∷ (second ++ (give ∷ third)))
-  tells : Tells p tell
-  answers : Gives p a give
-  only : (quiet first ≡ true) × (quiet second ≡ true) × (quiet third ≡ true)
-
-locate : (p : Packet) (a : ℕ) (r : Report) (l : List Event) → ((m : Move) → Tells p (accepted m r)) → Since l (gave (p .to) a ∷ told r ∷ []) → Located p a l
+locate : (p : Packet) (a : ℕ) (r : Report) (l : List Event) → ((m : Move) → Tells p (accepted m r)) → Since l (gave (p .to) a ∷ told r ∷ []) → Stretch.Acknowledged p a l
 locate p a r l t (next (next {l = first} (blank x) tells second y) gives third z) =
     record {
       first = first;
@@ -325,64 +314,87 @@ locate p a r l t (next (next {l = first} (blank x) tells second y) gives third z
       only = (x, y, z);
     }
 
-module _ (i a : ℕ) (before : List Event) (p : Packet) (ns : List Note) (v : Running i before p ns) where
-  located : Located p a (v .later) → Witnessed i a before
-  located z = record {
-    packet = p;
-    early = v .early;
-    start = v .start;
-    first = z .first;
-    tell = z .tell;
-    second = z .second;
-    give = z .give;
-    third = z .third;
-    split = v .split ∙ ap (λ l. v .early ++ (v .start ∷ l)) (z .split);
-    starts = v .starts;
-    last = subst (λ l. noOther i (held i (v .early ++ (v .start ∷ []))) l ≡ true) (z .split) (v .last);
-    tells = z .tells;
-    answers = z .answers;
-    only = z .only;
-  }
+acknowledged : (p : Packet) (a : ℕ) (l : List Event) (ns : List Note) → Since l ns → Acknowledged p a ns → Stretch.Acknowledged p a l
+acknowledged p a l ns s (inl e) = locate p a _ l (λ m. good) (subst (Since l) e s)
+acknowledged p a l ns s (inr e) = locate p a _ l (λ m. dcrc) (subst (Since l) e s)
 
-  witness : Acknowledged p a ns → Witnessed i a before
-  witness (inl e) = located (locate p a _ (v .later) (λ m. good) (subst (Since (v .later)) e (v .since)))
-  witness (inr e) = located (locate p a _ (v .later) (λ m. dcrc) (subst (Since (v .later)) e (v .since)))
+-- node i's confirmations
+data Confirmation (i : ℕ) : Report → Type 0 where
+  sent : {x : ℕ} → Confirmation i (Sent i x)
+  acked : {a x : ℕ} → Confirmation i (Acked i a x)
+  missed : {x : ℕ} → Confirmation i (Miss i x)
+
+confirmation : (i : ℕ) (r : Report) → confirmationOf i r ≡ true → Confirmation i r
+confirmation i Silent e = never e
+confirmation i (Won j) e = never e
+confirmation i (Lost j) e = never e
+confirmation i (Sent j x) e = subst (λ j. Confirmation i (Sent j x)) (eqb-true i j e) sent
+confirmation i (Acked j a x) e = subst (λ j. Confirmation i (Acked j a x)) (eqb-true i j e) acked
+confirmation i (Miss j x) e = subst (λ j. Confirmation i (Miss j x)) (eqb-true i j e) missed
+confirmation i (Good j h d) e = never e
+confirmation i (Dcrc j h) e = never e
+confirmation i (Broad j h d) e = never e
+
+-- one in a run comes with a move that no book looks at, and its node is below n
+speaks : {n i : ℕ} {m : Move} {r : Report} → Confirmation i r → Single n (accepted m r) → (Aside m) × (i < n)
+speaks sent (loud s (inl q)) = let z : _≡_ {A = ℕ} 0 1 = cc in absurd (omega arith)
+speaks sent (loud s (inr h)) = (s, h)
+speaks acked (loud s (inl q)) = let z : _≡_ {A = ℕ} 0 1 = cc in absurd (omega arith)
+speaks acked (loud s (inr h)) = (s, h)
+speaks missed (loud s (inl q)) = let z : _≡_ {A = ℕ} 0 1 = cc in absurd (omega arith)
+speaks missed (loud s (inr h)) = (s, h)
+
+-- it confirms the running request of its node's book, and where it is honest it says of that what it should
+confirms-it : {i : ℕ} {r : Report} → Confirmation i r → (b : Book) → reports (eqb i (nodeOf r)) r b ≡ confirms r (b .running) b
+confirms-it {i} (sent {x = x}) b = ap (λ y. reports y (Sent i x) b) (eq-eqb i i refl)
+confirms-it {i} (acked {a = a} {x = x}) b = ap (λ y. reports y (Acked i a x) b) (eq-eqb i i refl)
+confirms-it {i} (missed {x = x}) b = ap (λ y. reports y (Miss i x) b) (eq-eqb i i refl)
+
+says : {i : ℕ} {r : Report} (p : Packet) (l : List Event) (ns : List Note) → Confirmation i r → Since l ns → Honest p ns r → Confirms i p l r
+says {i} p l ns sent s h = subst (λ x. Confirms i p l (Sent i x)) h Stretch.sent
+says {i} p l ns (acked {a = a}) s h = subst (λ x. Confirms i p l (Acked i a x)) (h .0) (Stretch.acked (acknowledged p a l ns s (h .1)))
+says {i} p l ns missed s h = subst (λ x. Confirms i p l (Miss i x)) h Stretch.missed
 
 honest-part : (x y : List Confirmed) → AllHonest (x ++ y) → AllHonest y
 honest-part [] y h = h
 honest-part (c ∷ x) y h = honest-part x y (h .1)
 
--- an ack of node i, where its book of all events is right and honest: the book of the events before has a running request, and the ack confirmed that one
-module _ (n i a : ℕ) (before later : List Event) (m : Move) (s : Aside m) (all : Singles n before) where
+-- a confirmation of node i, where its book of all events is right and honest: the book of the events before has a running request, and that one was confirmed
+module _ (n i : ℕ) (r : Report) (is : Confirmation i r) (before later : List Event) (m : Move) (s : Aside m) (all : Singles n before) where
   abbrev b : Book
   b = bookOf i before newBook
 
-  confirmed-by : (x : Run) → b .running ≡ x → bookOf i later (confirms (Acked i a) x b) .wrong ≡ false →
-      AllHonest (bookOf i later (confirms (Acked i a) x b) .confirmed) → Witnessed i a before
+  confirmed-by : (x : Run) → b .running ≡ x → bookOf i later (confirms r x b) .wrong ≡ false → AllHonest (bookOf i later (confirms r x b) .confirmed) → Witnessed i r before
   confirmed-by none e w h = absurd (true≢false (was-right i later _ w))
   confirmed-by (run p ns) e w h =
-      let z = keeps-confirmed i later (confirms (Acked i a) (run p ns) b) w in
-      witness i a before p ns
-      (subst (Runs i before) e (story n i [] before newBook all (record { holds = refl; waiting = tt; running = tt }) (was-right i later _ w) .running))
-      (honest-part (z .0) _ (subst AllHonest (z .1) h) .0)
+      let z = keeps-confirmed i later (confirms r (run p ns) b) w in
+      let v : Running i before p ns =
+      subst (Runs i before) e (story n i [] before newBook all (record { holds = refl; waiting = tt; running = tt }) (was-right i later _ w) .running) in
+      record {
+        packet = p;
+        early = v .early;
+        start = v .start;
+        since = v .later;
+        split = v .split;
+        starts = v .starts;
+        last = v .last;
+        confirms = says p (v .later) ns is (v .since) (honest-part (z .0) _ (subst AllHonest (z .1) h) .0);
+      }
 
   abbrev whole : Book
-  whole = bookOf i (before ++ (accepted m (Acked i a) ∷ later)) newBook
+  whole = bookOf i (before ++ (accepted m r ∷ later)) newBook
 
-  ack : whole .wrong ≡ false → AllHonest (whole .confirmed) → Witnessed i a before
-  ack w h =
-      let e : whole ≡ bookOf i later (confirms (Acked i a) (b .running) b) =
-      book-append i before _ newBook ∙ ap (λ c. bookOf i later (reports (eqb i i) (Acked i a) c)) (s .no-entry _ b)
-      ∙ ap (λ y. bookOf i later (reports y (Acked i a) b)) (eq-eqb i i refl) in
+  witnessed : whole .wrong ≡ false → AllHonest (whole .confirmed) → Witnessed i r before
+  witnessed w h =
+      let e : whole ≡ bookOf i later (confirms r (b .running) b) =
+      book-append i before _ newBook ∙ ap (λ c. bookOf i later (reports (eqb i (nodeOf r)) r c)) (s .no-entry _ b) ∙ ap (bookOf i later) (confirms-it is b) in
       confirmed-by (b .running) refl (subst (λ c. c .wrong ≡ false) e w) (subst (λ c. AllHonest (c .confirmed)) e h)
 
--- every acknowledgement has its start, its told report and its respond, and nothing else between
-pub every-ack : (n : ℕ) (l : List Action) → ((i : ℕ) → i < n → book n l i .wrong ≡ false) →
-    ((i : ℕ) → i < n → AllHonest (book n l i .confirmed)) → EveryAck n l
-every-ack n l right honest before later m i a e =
-    let s = singles-split n before _ (subst (Singles n) e (all-single (fresh n) l)) in go (s .0) (s .1 .0)
-  where
-    go : Singles n before → Single n (accepted m (Acked i a)) → Witnessed i a before
-    go all (loud s (inl q)) = let z : _≡_ {A = ℕ} 0 1 = cc in absurd (omega arith)
-    go all (loud s (inr h)) =
-        ack n i a before later m s all (subst (λ l. bookOf i l newBook .wrong ≡ false) e (right i h)) (subst (λ l. AllHonest (bookOf i l newBook .confirmed)) e (honest i h))
+-- every confirmation has its request's start and bears its label, every acknowledgement its told report and its respond, and nothing else between
+pub every-confirmation : (n : ℕ) (l : List Action) → ((i : ℕ) → i < n → book n l i .wrong ≡ false) →
+    ((i : ℕ) → i < n → AllHonest (book n l i .confirmed)) → EveryConfirmation n l
+every-confirmation n l right honest before later m r i c e =
+    let s = singles-split n before _ (subst (Singles n) e (all-single (fresh n) l)) in
+    let is = confirmation i r c in
+    let y = speaks is (s .1 .0) in
+    witnessed n i r is before later m (y .0) (s .0) (subst (λ l. bookOf i l newBook .wrong ≡ false) e (right i (y .1))) (subst (λ l. AllHonest (bookOf i l newBook .confirmed)) e (honest i (y .1)))

@@ -1,7 +1,7 @@
 -- Number 12: a fresh bus is valid, every step keeps a state valid, so 12 never shows in a run from a fresh bus. And n never changes.
 use mathlib.Core.Path.{_≡_, refl, sym, ap, subst, _∙_}
 use mathlib.Core.Logic.{_≢_, ⊎-elim}
-use mathlib.Core.Bool.{Bool, true, _&&_, not}
+use mathlib.Core.Bool.{Bool, true, false, _&&_, not}
 use mathlib.Core.List.{List, [], _∷_, List·Memᴰ, List·Memᴰ·cases-cons, List·Memᴰ·not-nil}
 use Prim.Native.Nat.{ℕ, suc, _<_, _≤_}
 use native.Mathlib.Omega.{arith}
@@ -31,14 +31,14 @@ use Rattle.charts.specs.declared.Decoded.the-variants.{Refused, Accepted
 use Rattle.charts.specs.Modes as P
 use Rattle.charts.specs.Modes.{placeOf, isTold, isOwed}
 use Rattle.charts.specs.Signals as S
-use Rattle.charts.specs.Signals.{classOf, isLine, ackOf, isEnd}
+use Rattle.charts.specs.Signals.{classOf, isLine, headOf, ackOf, isEnd}
 use Rattle.charts.specs.Places.{stepIn, ackIn, holdIn, headIn, datumIn, modes}
-use Rattle.charts.specs.Reception.{hears}
+use Rattle.charts.specs.Reception.{falls, hears}
 use Rattle.charts.specs.Numbers as N
 use Rattle.charts.specs.State.{State, moved, remarked, fresh, some, others, pendings, holders}
 use Rattle.charts.specs.Actions.{Outcome, closed, does, firstOther, nextOther, onward}
-use Rattle.charts.specs.Records.{isKind, clean, namesNode, namesAddress, isAddress, read}
-use Rattle.charts.specs.Valid.{isSize, isAck, modeFits, bufferFits, cellFits, signalFits, phaseFits, valid}
+use Rattle.charts.specs.Records.{isKind, clean, namesNode, namesAddress, isAddress, isLabel, read}
+use Rattle.charts.specs.Valid.{isSize, isAck, modeFits, packetFits, bufferFits, cellFits, signalFits, phaseFits, valid}
 use Rattle.charts.specs.Step.{Result, Event, carryOut, comesTo, about, play, look, stepWith, step, begin, after, results}
 use Rattle.charts.proofs.Tools.{implies, implied, and-true, both, pick, pick-by, at-upd, every-all, table-at, mem, by-test}
 use Rattle.charts.proofs.Places.{mode-is, mode-at, place-lt, law}
@@ -62,7 +62,7 @@ fresh-valid n two small =
 pub record Fitting (n : ℕ) (m : Mode) (b : Buffer) (p : Packet) : Type 0 where
   pub mode-fits : modeFits m ≡ true
   pub buffer-fits : bufferFits n b ≡ true
-  pub packet-fits : isAddress n (p .to) ≡ true
+  pub packet-fits : packetFits n p ≡ true
 
 abbrev pub CellFits : ℕ → Cell → Type 0
 CellFits n c = Fitting n (c .mode) (c .buffer) (c .sending)
@@ -78,9 +78,9 @@ pub fits-cell : (n : ℕ) (c : Cell) → CellFits n c → cellFits n c ≡ true
 unfolding cellFits
 fits-cell n c f = both (modeFits (c .mode)) _ (f .mode-fits) (both (bufferFits n (c .buffer)) _ (f .buffer-fits) (f .packet-fits))
 
--- a mode that remembers neither an acknowledgement nor a step fits
+-- a mode that remembers no acknowledgement, no header and no step fits
 abbrev bare : ℕ → Bool
-bare p = not (mem p (P.ackGood ∷ P.sending ∷ P.acking ∷ []))
+bare p = not (mem p (P.ackGood ∷ P.bodyOwn ∷ P.bodyAll ∷ P.tailOwnGood ∷ P.tailOwnBad ∷ P.tailAllGood ∷ P.tailAllBad ∷ P.sending ∷ P.acking ∷ []))
 
 bare-fits : (m : Mode) → bare (placeOf m) ≡ true → modeFits m ≡ true
 unfolding modeFits
@@ -102,32 +102,58 @@ ack-fits n (Header h c) e = refl
 ack-fits n (Data d c) e = refl
 ack-fits n (Ack a c) e = e
 
--- hearing a signal that fits keeps a mode that fits: Sending and Acking stay, an acknowledgement is remembered in AckBody only, and no other mode leads to one that remembers
-hears-fits : (n me : ℕ) (m : Mode) (g : Signal) → signalFits n g ≡ true → modeFits m ≡ true → modeFits (hears me m g .mode) ≡ true
+-- and a header with a label that fits
+label-fits : (n : ℕ) (g : Signal) → signalFits n g ≡ true → isLabel (headOf g .label) ≡ true
+label-fits n Start e = refl
+label-fits n End e = refl
+label-fits n Prefix e = refl
+label-fits n Gap e = refl
+label-fits n Dhead e = refl
+label-fits n (Dest a) e = refl
+label-fits n (Header h c) e = e
+label-fits n (Data d c) e = refl
+label-fits n (Ack a c) e = refl
+
+-- hearing a signal that fits keeps a mode that fits: Sending and Acking stay, an acknowledgement is remembered in AckBody only, a header in HeadOwn and HeadAll only,
+-- BodyOwn and BodyAll keep theirs, and no other mode leads to one that remembers
+hears-fits : (n me label : ℕ) (m : Mode) (g : Signal) → signalFits n g ≡ true → modeFits m ≡ true → modeFits (hears me label m g .mode) ≡ true
 unfolding hears modeFits
-hears-fits n me m g e =
-    by-test (eqb (placeOf m) P.sending) (λ q. subst Kept (sym (mode-is m P.sending (eqb-true _ _ q))) (λ f. f)) λ q1.
-    by-test (eqb (placeOf m) P.acking) (λ q. subst Kept (sym (mode-is m P.acking (eqb-true _ _ q))) (λ f. f)) λ q2.
-    by-test (eqb (placeOf m) P.ackBody) (λ q. subst Kept (sym (mode-is m P.ackBody (eqb-true _ _ q))) (λ f. remembers)) λ q3.
-    λ f. bare-fits (hears me m g .mode) (rw (q1, q2, q3) at (law (λ y p c. implies (not (mem p (P.sending ∷ P.acking ∷ P.ackBody ∷ []))) (bare (y .place))) tt me m g))
+hears-fits n me label m g e =
+    at P.sending (λ f. f) λ q1.
+    at P.acking (λ f. f) λ q2.
+    at P.ackBody (λ f. pick Fits (eqb c S.gap) _ _ refl (pick Fits (isLine c) _ _ refl (pick Fits (eqb c S.ackGood) _ _ (ack-fits n g e) refl))) λ q3.
+    at P.headOwn (λ f. pick Fits (eqb c S.headerGood) _ _ (label-fits n g e) refl) λ q4.
+    at P.headAll (λ f. pick Fits (eqb c S.headerGood) _ _ (label-fits n g e) falling) λ q5.
+    at P.bodyOwn (λ f. pick Fits (eqb c S.dataGood) _ _ f (pick Fits (eqb c S.dataBad) _ _ f refl)) λ q6.
+    at P.bodyAll (λ f. pick Fits (eqb c S.dataGood) _ _ f (pick Fits (eqb c S.dataBad) _ _ f falling)) λ q7.
+    λ f. bare-fits (hears me label m g .mode) (rw (q1, q2, q3, q4, q5, q6, q7) at (law (λ y p c. implies (not (mem p remembering)) (bare (y .place))) tt me label m g))
   where
+    remembering : List ℕ
+    remembering = P.sending ∷ P.acking ∷ P.ackBody ∷ P.headOwn ∷ P.headAll ∷ P.bodyOwn ∷ P.bodyAll ∷ []
+
+    c : ℕ
+    c = classOf me g
+
     Fits : Heard → Type 0
     Fits x = modeFits (x .mode) ≡ true
 
     Kept : Mode → Type 0
-    Kept m = modeFits m ≡ true → Fits (hears me m g)
+    Kept m = modeFits m ≡ true → Fits (hears me label m g)
 
-    remembers : Fits (hears me AckBody g)
-    remembers = pick Fits (eqb (classOf me g) S.gap) _ _ refl (pick Fits (isLine (classOf me g)) _ _ refl (pick Fits (eqb (classOf me g) S.ackGood) _ _ (ack-fits n g e) refl))
+    falling : Fits (falls Silent Silent c)
+    falling = pick Fits (eqb c S.gap) _ _ refl refl
+
+    at : (p : ℕ) → Kept (getD (modes (stepIn m) (ackIn m) (holdIn m) (headIn m) (datumIn m)) p Spurious) → (eqb (placeOf m) p ≡ false → Kept m) → Kept m
+    at p y n = by-test (eqb (placeOf m) p) (λ q. subst Kept (sym (mode-is m p (eqb-true _ _ q))) y) n
 
 -- what a node whose mode and packet fit puts out fits, and so does its next mode
 puts-fit : (n : ℕ) {i : ℕ} {p : Packet} {m : Mode} {g : Signal} {m′ : Mode} {r : Report} →
-    Puts i p m g m′ r → modeFits m ≡ true → isAddress n (p .to) ≡ true → (signalFits n g ≡ true) × (modeFits m′ ≡ true)
+    Puts i p m g m′ r → modeFits m ≡ true → packetFits n p ≡ true → (signalFits n g ≡ true) × (modeFits m′ ≡ true)
 unfolding modeFits
 puts-fit n W.start f a = (refl, refl)
 puts-fit n W.dhead f a = (refl, refl)
-puts-fit n W.dest f a = (a, refl)
-puts-fit n W.header f a = (refl, refl)
+puts-fit n {p = p} W.dest f a = (and-true (isAddress n (p .to)) _ a .0, refl)
+puts-fit n {p = p} W.header f a = (and-true (isAddress n (p .to)) _ a .1, refl)
 puts-fit n W.datum f a = (refl, refl)
 puts-fit n (W.end-all l q) f a = (refl, refl)
 puts-fit n (W.end-one l q) f a = (refl, refl)
@@ -140,9 +166,9 @@ puts-fit n W.holds-on f a = (refl, refl)
 
 -- what arrives of a signal that fits, fits
 arrives-fit : (n : ℕ) {misled : Bool} {v : Way} {g t : Signal} {b : Bool} → Arrives misled v g t b → Known n (Carry v) → signalFits n g ≡ true → signalFits n t ≡ true
-arrives-fit n {misled = misled} {g = g} W.passes k f = W.passed-by (λ x. signalFits n x ≡ true) misled g f (λ h c d e. refl)
+arrives-fit n {misled = misled} {g = g} W.passes k f = W.passed-by (λ x. signalFits n x ≡ true) misled g f (λ h c d e. subst (λ x. signalFits n x ≡ true) e f)
 arrives-fit n (W.redirects e) k f = k
-arrives-fit n W.bad-header k f = refl
+arrives-fit n W.bad-header k f = f
 arrives-fit n W.bad-data k f = refl
 arrives-fit n W.bad-ack k f = f
 
@@ -219,7 +245,7 @@ module _ (s : State) (v : Valid s) where
   fit {i = i} k l (W.frees q h e) = (pick (λ p. phaseFits n p ≡ true) (others (holders (s .cell)) i n) _ _ refl (lt-ltb 0 n (omega (arith, l))), in-mode i l _ refl)
   fit {i = i} k l (W.arrives {w = w} {g = g} {t = t} q x) =
       let d = delivering w g i q in
-      (onward-fits n w g i _ d, in-mode i l _ (hears-fits n i (s .cell i .mode) t (arrives-fit n x k (d .signal-fits)) (was i l .mode-fits)))
+      (onward-fits n w g i _ d, in-mode i l _ (hears-fits n i _ (s .cell i .mode) t (arrives-fit n x k (d .signal-fits)) (was i l .mode-fits)))
   fit {i = i} k l (W.drops {w = w} {g = g} q u) = (onward-fits n w g i _ (delivering w g i q), was i l)
   fit {i = i} k l (W.grants q e u) = (
     pick (λ p. phaseFits n p ≡ true) (others (pendings (s .cell)) i n) _ _ refl refl,
@@ -229,8 +255,8 @@ module _ (s : State) (v : Valid s) where
       Fits : Mode → Type 0
       Fits m = modeFits m ≡ true
   fit {i = i} k l (W.grants-none q e) = (refl, was i l)
-  fit {i = i} k l (W.gaps q u) = (lt-ltb (suc i) n u, in-mode i l _ (hears-fits n i (s .cell i .mode) Gap refl (was i l .mode-fits)))
-  fit {i = i} k l (W.settles q u) = (refl, in-mode i l _ (hears-fits n i (s .cell i .mode) Gap refl (was i l .mode-fits)))
+  fit {i = i} k l (W.gaps q u) = (lt-ltb (suc i) n u, in-mode i l _ (hears-fits n i _ (s .cell i .mode) Gap refl (was i l .mode-fits)))
+  fit {i = i} k l (W.settles q u) = (refl, in-mode i l _ (hears-fits n i _ (s .cell i .mode) Gap refl (was i l .mode-fits)))
   fit {i = i} k l (W.resets q) = (v .phase-fits, was i l)
 
 -- the state after, then: another phase and another cell, and some marks changed
@@ -260,29 +286,30 @@ valid-after s (a ∷ l) v = valid-after (step s a .state) l (valid-kept s a v)
 pub run-valid : (n : ℕ) → 2 ≤ n → n < 64 → (l : List Action) → valid (after (fresh n) l) ≡ true
 run-valid n two small l = valid-after (fresh n) l (fresh-valid n two small)
 
--- 12 is the answer to a state that is not valid only: reading a record gives 2 to 6, playing an action 0 or 7
-abbrev Below12 : Decoded → Type 0
-Below12 (Refused k) = k < N.not-valid
-Below12 (Accepted m) = Unit {0}
+-- 12 is the answer to a state that is not valid only: reading a record gives 2 to 6 or 13, playing an action 0 or 7
+abbrev Not12 : Decoded → Type 0
+Not12 (Refused k) = eqb k N.not-valid ≡ false
+Not12 (Accepted m) = Unit {0}
 
-read-below : (n : ℕ) (a : Action) → Below12 (read n a)
+read-not-12 : (n : ℕ) (a : Action) → Not12 (read n a)
 unfolding read
-read-below n a =
-    pick Below12 (not (isKind (a .kind))) _ _ (lit< tt) (
-    pick Below12 (not (clean a)) _ _ (lit< tt) (
-    pick Below12 (namesNode (a .kind) && not (ltb (a .node) n)) _ _ (lit< tt) (
-    pick Below12 (namesAddress (a .kind) && not (isAddress n (a .address))) _ _ (lit< tt) (
-    pick Below12 (not (ltb (a .ack) 16 && ltb (a .hold) 2)) _ _ (lit< tt) tt))))
+read-not-12 n a =
+    pick Not12 (not (isKind (a .kind))) _ _ refl (
+    pick Not12 (not (clean a)) _ _ refl (
+    pick Not12 (namesNode (a .kind) && not (ltb (a .node) n)) _ _ refl (
+    pick Not12 (namesAddress (a .kind) && not (isAddress n (a .address))) _ _ refl (
+    pick Not12 (not (isLabel (a .label))) _ _ refl (
+    pick Not12 (not (ltb (a .ack) 16 && ltb (a .hold) 2)) _ _ refl tt)))))
 
-pub number-below : (s : State) (a : Action) → valid s ≡ true → step s a .number < N.not-valid
+pub number-not-12 : (s : State) (a : Action) → valid s ≡ true → step s a .number ≢ N.not-valid
 unfolding step look play
-number-below s a v = rw v (go (read (s .n) a) (read-below (s .n) a))
+number-not-12 s a v = eqb-false _ _ (rw v (go (read (s .n) a) (read-not-12 (s .n) a)))
   where
-    out : (i : ℕ) (o : Outcome) → carryOut s i o .number < N.not-valid
-    out i closed = lit< tt
-    out i (does r p c x) = lit< tt
+    out : (i : ℕ) (o : Outcome) → eqb (carryOut s i o .number) N.not-valid ≡ false
+    out i closed = refl
+    out i (does r p c x) = refl
 
-    go : (d : Decoded) → Below12 d → stepWith s d .number < N.not-valid
+    go : (d : Decoded) → Not12 d → eqb (stepWith s d .number) N.not-valid ≡ false
     go (Refused k) l = l
     go (Accepted m) l = out (about s m) (comesTo s m)
 
@@ -293,7 +320,7 @@ never-12 n two small l r = from (fresh n) l (fresh-valid n two small)
     from : (s : State) (l : List Action) → valid s ≡ true → List·Memᴰ r (results s l) → r .number ≢ N.not-valid
     from s [] v h = absurd (List·Memᴰ·not-nil h)
     from s (a ∷ l) v h =
-        ⊎-elim (λ e z. let y = number-below s a v in let q : step s a .number ≡ N.not-valid = sym (ap (λ (r : Result). r .number) e) ∙ z in omega arith)
+        ⊎-elim (λ e z. number-not-12 s a v (sym (ap (λ (r : Result). r .number) e) ∙ z))
         (from (step s a .state) l (valid-kept s a v)) (List·Memᴰ·cases-cons h)
 
 -- a fresh bus for a good n is handed out

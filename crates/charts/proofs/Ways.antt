@@ -38,7 +38,7 @@ use Rattle.charts.specs.Arrivals as Arrivals
 use Rattle.charts.specs.Arrivals.{passed}
 use Rattle.charts.specs.State.{State, setMode, setPending, setMisled, wons, pendings, holders, some, others, lowest, isIdle, isBusy, isGranting, isEmpty}
 use Rattle.charts.specs.Actions as Actions
-use Rattle.charts.specs.Actions.{Outcome, closed, does, quietly, when, fills, mayAnswer, answers, firstOther, putsOut, markingBy, freed, afterFree, hearing, delivers, takesGrant, afterGrant, takesGap, markingAtIdle, nextOf}
+use Rattle.charts.specs.Actions.{Outcome, closed, does, quietly, when, fills, mayAnswer, answers, firstOther, putsOut, markingBy, freed, afterFree, receives, hearing, delivers, takesGrant, afterGrant, takesGap, markingAtIdle, nextOf}
 use Rattle.charts.specs.Step.{about, comesTo}
 use Rattle.charts.proofs.Tools.{never, implies, and-true, or-no, pick-by}
 use Rattle.charts.proofs.Places.{mode-is, law}
@@ -50,7 +50,7 @@ pub data Puts (i : ℕ) (p : Packet) : Mode → Signal → Mode → Report → T
   dest : Puts i p (Sending 2) (Dest (p .to)) (Sending 3) R.Silent
   header : Puts i p (Sending 3) (Header (p .head) true) (Sending 4) R.Silent
   datum : Puts i p (Sending 4) (Data (p .datum) true) (Sending 5) R.Silent
-  end-all : {k : ℕ} → 5 ≤ k → eqb (p .to) everybody ≡ true → Puts i p (Sending k) End Rest (R.Sent i)
+  end-all : {k : ℕ} → 5 ≤ k → eqb (p .to) everybody ≡ true → Puts i p (Sending k) End Rest (R.Sent i (p .head .label))
   end-one : {k : ℕ} → 5 ≤ k → eqb (p .to) everybody ≡ false → Puts i p (Sending k) End AwaitAck R.Silent
   filler : Puts i p Answering Prefix Answering R.Silent
   ack-start : {a : ℕ} {h : Bool} → Puts i p (Acking 0 a h) Start (Acking 1 a h) R.Silent
@@ -79,17 +79,17 @@ pub data Arrives (misled : Bool) : Way → Signal → Signal → Bool → Type 0
   bad-data : {b d : ℕ} {c : Bool} → Arrives misled (Change b) (Data d c) (Data d false) false
   bad-ack : {b a : ℕ} {c : Bool} → Arrives misled (Change b) (Ack a c) (Ack a false) false
 
--- an action m about node i comes to o, in one of fifteen ways (or it is not open)
 -- a Gap enters nobody as pending and misleads nobody: it changes the node's mode alone
 abbrev pub afterGap : ℕ → Cell → Cell
-afterGap j c = setMode (hears j (c .mode) Gap .mode) c
+afterGap j c = setMode (receives hears j c Gap .mode) c
 
 gap-takes : (j : ℕ) (c : Cell) → takesGap hears j c ≡ afterGap j c
 gap-takes j c =
-    ap₂ (λ p q. setMode (hears j (c .mode) Gap .mode) (setPending p (setMisled q c)))
-    (ap (λ b. c .pending || b) (not-true _ (law (λ y p k. implies (eqb k S.gap) (not (y .pends))) tt j (c .mode) Gap)) ∙ or-no (c .pending))
+    ap₂ (λ p q. setMode (receives hears j c Gap .mode) (setPending p (setMisled q c)))
+    (ap (λ b. c .pending || b) (not-true _ (law (λ y p k. implies (eqb k S.gap) (not (y .pends))) tt j _ (c .mode) Gap)) ∙ or-no (c .pending))
     (or-no (c .misled))
 
+-- an action m about node i comes to o, in one of fifteen ways (or it is not open)
 pub data Effect (s : State) : Move → ℕ → Outcome → Type 0 where
   refuses : {m : Move} {i : ℕ} → Effect s m i closed
   waits : {i : ℕ} {p : Packet} → placeOf (s .cell i .mode) ≡ P.rest → s .cell i .buffer ≡ Empty → Effect s (Request i p) i (quietly (s .phase) (fills p (s .cell i)))
@@ -103,15 +103,15 @@ pub data Effect (s : State) : Move → ℕ → Outcome → Type 0 where
   frees : {i : ℕ} → s .phase ≡ Busy → s .cell i .holder ≡ true → s .cell i .mode ≡ Spurious →
       Effect s (Clock i) i (quietly (afterFree (s .n) i (holders (s .cell))) (freed (s .cell i)))
   arrives : {v : Way} {w : ℕ} {g : Signal} {j : ℕ} {t : Signal} {b : Bool} → s .phase ≡ Delivering w g j → Arrives (s .cell j .misled) v g t b →
-      Effect s (Carry v) j (delivers (s .n) w g j (pendings (s .cell)) (hears j (s .cell j .mode) t .report) (hearing (s .cell j) (hears j (s .cell j .mode) t) b))
+      Effect s (Carry v) j (delivers (s .n) w g j (pendings (s .cell)) (receives hears j (s .cell j) t .report) (hearing (s .cell j) (receives hears j (s .cell j) t) b))
   drops : {w : ℕ} {g : Signal} {j : ℕ} → s .phase ≡ Delivering w g j → leb 6 (kindOf g) ≡ true → Effect s (Carry Lose) j (delivers (s .n) w g j (pendings (s .cell)) R.Silent (s .cell j))
   grants : {i : ℕ} → s .phase ≡ Granting → some (pendings (s .cell)) (s .n) ≡ true → lowest (pendings (s .cell)) (s .n) 0 ≡ i →
       Effect s Grant i (quietly (afterGrant (s .n) i (pendings (s .cell))) (takesGrant (s .cell i)))
   grants-none : {i : ℕ} → s .phase ≡ Granting → some (pendings (s .cell)) (s .n) ≡ false → Effect s Grant i (quietly Busy (s .cell i))
   gaps : {j : ℕ} → s .phase ≡ Gapping j → suc j < s .n →
-      Effect s GapNext j (does (hears j (s .cell j .mode) Gap .report) (Gapping (suc j)) (afterGap j (s .cell j)) M.Nothing)
+      Effect s GapNext j (does (receives hears j (s .cell j) Gap .report) (Gapping (suc j)) (afterGap j (s .cell j)) M.Nothing)
   settles : {j : ℕ} → s .phase ≡ Gapping j → s .n ≤ suc j →
-      Effect s GapNext j (does (hears j (s .cell j .mode) Gap .report) Idle (afterGap j (s .cell j)) markingAtIdle)
+      Effect s GapNext j (does (receives hears j (s .cell j) Gap .report) Idle (afterGap j (s .cell j)) markingAtIdle)
   resets : {i : ℕ} → s .phase ≡ Idle → Effect s Reset i (does R.Silent (s .phase) (s .cell i) M.Won)
 
 pub is-idle : (p : Phase) → isIdle p ≡ true → p ≡ Idle
@@ -177,7 +177,7 @@ module _ (s : State) where
         pick-by Clocks (eqb k 3) _ _ (λ q. at-step k 3 _ _ q e header) λ k3.
         pick-by Clocks (eqb k 4) _ _ (λ q. at-step k 4 _ _ q e datum) λ k4.
         let l : 5 ≤ k = omega (arith, eqb-false k 0 k0, eqb-false k 1 k1, eqb-false k 2 k2, eqb-false k 3 k3, eqb-false k 4 k4) in
-        pick-by Clocks (eqb (s .cell i .sending .to) everybody) _ _ (λ q. out _ End Rest (R.Sent i) e (end-all l q)) (λ q. out _ End AwaitAck R.Silent e (end-one l q))
+        pick-by Clocks (eqb (s .cell i .sending .to) everybody) _ _ (λ q. out _ End Rest (R.Sent i (s .cell i .sending .head .label)) e (end-all l q)) (λ q. out _ End AwaitAck R.Silent e (end-one l q))
 
     acks : (k a : ℕ) (h : Bool) → s .cell i .mode ≡ Acking k a h → Clocks (Outputs.acks k a h)
     acks k a h e =
@@ -266,8 +266,8 @@ module _ (s : State) where
   gap (Delivering w g j) q = refuses
   gap Granting q = refuses
   gap (Gapping j) q =
-      let got : (p : Phase) (x : Marking) → Effect s GapNext j (does (hears j (s .cell j .mode) Gap .report) p (afterGap j (s .cell j)) x) → Effect s GapNext j (Actions.gapsTo hears p x j (s .cell j))
-      = λ p x. subst (λ c. Effect s GapNext j (does (hears j (s .cell j .mode) Gap .report) p c x)) (sym (gap-takes j (s .cell j))) in
+      let got : (p : Phase) (x : Marking) → Effect s GapNext j (does (receives hears j (s .cell j) Gap .report) p (afterGap j (s .cell j)) x) → Effect s GapNext j (Actions.gapsTo hears p x j (s .cell j))
+      = λ p x. subst (λ c. Effect s GapNext j (does (receives hears j (s .cell j) Gap .report) p c x)) (sym (gap-takes j (s .cell j))) in
       pick-by (Effect s GapNext j) (ltb (suc j) (s .n)) _ _
       (λ e. got (Gapping (suc j)) M.Nothing (gaps q (ltb-true (suc j) (s .n) e))) (λ e. got Idle markingAtIdle (settles q (ltb-false (suc j) (s .n) e)))
 

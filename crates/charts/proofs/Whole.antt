@@ -13,7 +13,7 @@ use Rattle.charts.specs.State.{State, isIdle, nothing, fresh}
 use Rattle.charts.specs.Records.{moveOf}
 use Rattle.charts.specs.Step.{Result, step, after, Event, eventOf, events}
 use Rattle.charts.specs.Demand.{Book, newBook, enters, bookOf, final, history, book, bound, Demand3}
-use Rattle.charts.specs.Stretch.{EveryAck}
+use Rattle.charts.specs.Stretch.{EveryConfirmation}
 use Rattle.charts.specs.Replies.{OneReply}
 use Rattle.charts.proofs.Places.{mode-is}
 use Rattle.charts.proofs.Ways.{is-idle}
@@ -29,7 +29,7 @@ use Rattle.charts.proofs.Books.{Kept, books-kept, fresh-kept, ours, non
 use Rattle.charts.proofs.Tally.{counted, once}
 use Rattle.charts.proofs.Payload.{Carry, fresh-carry, carries, one-responder}
 use Rattle.charts.proofs.Answers.{Heed, fresh-heed, heeds}
-use Rattle.charts.proofs.Stretches.{every-ack}
+use Rattle.charts.proofs.Stretches.{every-confirmation}
 
 -- what holds of a state that a list of actions reaches, with the books of its nodes
 record Whole (s : State) (bk : ℕ → Book) : Type 0 where
@@ -81,9 +81,9 @@ module _ (n : ℕ) (two : 2 ≤ n) (small : n ≤ 63) (l : List Action) where
     settled = λ e i h. none-runs _ _ (book n l i .running) (whole .kept i .runs) (ap ours (at-rest e i h));
   }
 
-  -- the acknowledgement claim once more, of places in the list of events alone
-  pub every-ack-of : EveryAck n l
-  every-ack-of = every-ack n l (demand-3 .right) (demand-3 .honest)
+  -- the claim about confirmations once more, of places in the list of events alone
+  pub every-confirmation-of : EveryConfirmation n l
+  every-confirmation-of = every-confirmation n l (demand-3 .right) (demand-3 .honest)
 
   -- beside it: the bus's own mark, and replies
   pub one-reply-of : OneReply n l

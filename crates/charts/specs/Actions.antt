@@ -125,6 +125,13 @@ abbrev pub onward : ℕ → ℕ → Signal → ℕ → (ℕ → Bool) → Phase
 onward n i s j ps =
     cond (ltb (nextOther i j) n) (Delivering i s (nextOther i j)) (cond (isEnd s) (cond (some ps n) Granting (Gapping 0)) Busy)
 
+-- what node j with the cell c does with a signal. "A confirmation […] bears the label of its own request": that of the packet that the node is sending
+abbrev pub labelOf : Cell → ℕ
+labelOf c = c .sending .head .label
+
+abbrev pub receives : Reception → ℕ → Cell → Signal → Heard
+receives h j c t = h j (labelOf c) (c .mode) t
+
 -- the receiver's cell after what it heard: it may be entered as pending, or marked misled
 abbrev pub hearing : Cell → Heard → Bool → Cell
 hearing c x misleads = setMode (x .mode) (setPending (c .pending || x .pends) (setMisled (c .misled || misleads) c))
@@ -135,7 +142,7 @@ delivers n i s j ps r c = does r (onward n i s j (upd ps j (c .pending))) c M.No
 abbrev pub deliverWith : Reception → ℕ → ℕ → Signal → ℕ → Cell → (ℕ → Bool) → Arrival → Outcome
 deliverWith h n i s j c ps A.Closed = closed
 deliverWith h n i s j c ps A.Lost = delivers n i s j ps R.Silent c
-deliverWith h n i s j c ps (A.Hears t misleads) = delivers n i s j ps (h j (c .mode) t .report) (hearing c (h j (c .mode) t) misleads)
+deliverWith h n i s j c ps (A.Hears t misleads) = delivers n i s j ps (receives h j c t .report) (hearing c (receives h j c t) misleads)
 
 -- "bus Delivering, as for 6 and 7"
 unfoldable pub carry : Reception → ℕ → Phase → Cell → (ℕ → Bool) → Way → Outcome
@@ -164,14 +171,14 @@ grant n ph i c ps =
 
 -- 9. gap: "bus Gapping. The next node gets Gap; after node n−1 the bus is Idle."
 abbrev pub takesGap : Reception → ℕ → Cell → Cell
-takesGap h j c = hearing c (h j (c .mode) Gap) false
+takesGap h j c = hearing c (receives h j c Gap) false
 
 -- the bus's mark, request 1: "cleared when the bus becomes Idle"
 abbrev pub markingAtIdle : Marking
 markingAtIdle = M.Concatenated false
 
 abbrev pub gapsTo : Reception → Phase → Marking → ℕ → Cell → Outcome
-gapsTo h p x j c = does (h j (c .mode) Gap .report) p (takesGap h j c) x
+gapsTo h p x j c = does (receives h j c Gap .report) p (takesGap h j c) x
 
 unfoldable pub gap : Reception → ℕ → Phase → Cell → Outcome
 gap h n Idle c = closed

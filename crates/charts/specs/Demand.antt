@@ -94,9 +94,9 @@ abbrev pub nodeOf : Report → ℕ
 nodeOf Silent = 0
 nodeOf (Won i) = i
 nodeOf (Lost i) = i
-nodeOf (Sent i) = i
-nodeOf (Acked i a) = i
-nodeOf (Miss i) = i
+nodeOf (Sent i x) = i
+nodeOf (Acked i a x) = i
+nodeOf (Miss i x) = i
 nodeOf (Good i h d) = i
 nodeOf (Dcrc i h) = i
 nodeOf (Broad i h d) = i
@@ -118,12 +118,12 @@ reports mine Silent b = b
 reports true (Won i) b = wins (b .waiting) b
 reports false (Won i) b = b
 reports mine (Lost i) b = b
-reports true (Sent i) b = confirms (Sent i) (b .running) b
-reports false (Sent i) b = b
-reports true (Acked i a) b = confirms (Acked i a) (b .running) b
-reports false (Acked i a) b = b
-reports true (Miss i) b = confirms (Miss i) (b .running) b
-reports false (Miss i) b = b
+reports true (Sent i x) b = confirms (Sent i x) (b .running) b
+reports false (Sent i x) b = b
+reports true (Acked i a x) b = confirms (Acked i a x) (b .running) b
+reports false (Acked i a x) b = b
+reports true (Miss i x) b = confirms (Miss i x) (b .running) b
+reports false (Miss i x) b = b
 reports mine (Good i h d) b = notes (told (Good i h d)) b
 reports mine (Dcrc i h) b = notes (told (Dcrc i h)) b
 reports mine (Broad i h d) b = notes (told (Broad i h d)) b
@@ -154,9 +154,9 @@ abbrev pub answered : Bool → Report → ℕ
 answered mine Silent = 0
 answered mine (Won i) = 0
 answered mine (Lost i) = 0
-answered mine (Sent i) = one mine
-answered mine (Acked i a) = one mine
-answered mine (Miss i) = one mine
+answered mine (Sent i x) = one mine
+answered mine (Acked i a x) = one mine
+answered mine (Miss i x) = one mine
 answered mine (Good i h d) = 0
 answered mine (Dcrc i h) = 0
 answered mine (Broad i h d) = 0
@@ -175,20 +175,24 @@ confirmations i (accepted m r ∷ l) = answered (eqb i (nodeOf r)) r + confirmat
 abbrev pub size : Book → ℕ
 size b = length (b .confirmed) + one (isRun (b .running)) + one (not (isEmpty (b .waiting)))
 
--- 3. ACKNOWLEDGEMENTS. "From a request's start to its ack a there is exactly one of these on the whole bus: the addressed node's, good h d or dcrc h, with the
+-- 3. CONFIRMATIONS. "From a request's start to its ack a there is exactly one of these on the whole bus: the addressed node's, good h d or dcrc h, with the
 -- request's own header and data. In that stretch exactly one respond is accepted: that node's, after it was told, with a."
 abbrev pub Acknowledged : Packet → ℕ → List Note → Type 0
 Acknowledged p a l =
     (l ≡ gave (p .to) a ∷ told (Good (p .to) (p .head) (p .datum)) ∷ [])
     ⊎ (l ≡ gave (p .to) a ∷ told (Dcrc (p .to) (p .head)) ∷ [])
 
+-- request 3: "A confirmation, and the told report before an ack a, bears the label of its own request". (The told report's head is the request's, label included: Acknowledged.)
+abbrev pub Labelled : Packet → ℕ → Type 0
+Labelled p x = p .head .label ≡ x
+
 abbrev pub Honest : Packet → List Note → Report → Type 0
 Honest p l Silent = Unit {0}
 Honest p l (Won i) = Unit {0}
 Honest p l (Lost i) = Unit {0}
-Honest p l (Sent i) = Unit {0}
-Honest p l (Acked i a) = Acknowledged p a l
-Honest p l (Miss i) = Unit {0}
+Honest p l (Sent i x) = Labelled p x
+Honest p l (Acked i a x) = (Labelled p x) × (Acknowledged p a l)
+Honest p l (Miss i x) = Labelled p x
 Honest p l (Good i h d) = Unit {0}
 Honest p l (Dcrc i h) = Unit {0}
 Honest p l (Broad i h d) = Unit {0}
@@ -250,7 +254,8 @@ pub record Demand3 (n : ℕ) (l : List Action) : Type 0 where
   pub once : (i : ℕ) → i < n → confirmations i (history n l) ≡ length (book n l i .confirmed)
   -- "until then the buffer holds its address, header and data"
   pub waits : (i : ℕ) → i < n → book n l i .waiting ≡ final n l .cell i .buffer
-  -- "When a requester was reported ack a, the addressed node, and only it, had been told of that very packet […] And its user, and no other, had given a for it."
+  -- request 3: "A confirmation, and the told report before an ack a, bears the label of its own request". "When a requester was reported ack a, the addressed node, and only it, had been told of that very packet […]
+  -- And its user, and no other, had given a for it."
   pub honest : (i : ℕ) → i < n → AllHonest (book n l i .confirmed)
   -- "If the bus is not idle, some forward action is open"
   pub opens : isIdle (final n l .phase) ≡ false → (a : Action) × (isForward (final n l) a ≡ true)

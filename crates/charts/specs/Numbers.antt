@@ -1,4 +1,4 @@
--- "The twelve numbers": each stands here once, with its condition, and everything else cites it by name.
+-- "The twelve numbers" of document 01 and those that requests added: each stands here once, with its condition, and everything else cites it by name.
 use Prim.Native.Nat.{ℕ}
 
 -- no refusal
@@ -13,7 +13,7 @@ wrong-size = 1
 abbrev pub wrong-kind : ℕ
 wrong-kind = 2
 
--- 3: a field that the kind doesn't name, or one of the record's three zeros, is not 0
+-- 3: a field that the kind doesn't name, or one of the record's two zeros, is not 0
 abbrev pub stray-field : ℕ
 stray-field = 3
 
@@ -52,3 +52,7 @@ wrong-count = 11
 -- 12: a state handed in that is not valid
 abbrev pub not-valid : ℕ
 not-valid = 12
+
+-- 13 (request 3): label over 63
+abbrev pub wrong-label : ℕ
+wrong-label = 13

@@ -23,7 +23,7 @@ sends i k p =
     (cond (eqb k 2) (puts (Dest (p .to)) (Sending 3))
     (cond (eqb k 3) (puts (Header (p .head) true) (Sending 4))
     (cond (eqb k 4) (puts (Data (p .datum) true) (Sending 5))
-    (cond (eqb (p .to) everybody) (Puts End Rest (Sent i)) (puts End AwaitAck))))))
+    (cond (eqb (p .to) everybody) (Puts End Rest (Sent i (p .head .label))) (puts End AwaitAck))))))
 
 -- "Acking puts out Start, Ack, and then End (hold 0, → Rest) or Prefix (hold 1, → Holding)." (A step over 2 is no valid state's.)
 abbrev pub acks : ℕ → ℕ → Bool → Output

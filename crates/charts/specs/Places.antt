@@ -10,6 +10,7 @@ use Rattle.charts.specs.declared.Datum.{Datum}
 use Rattle.charts.specs.declared.Datum.the-variants as D
 use Rattle.charts.specs.declared.Mode.{Mode}
 use Rattle.charts.specs.declared.Mode.the-variants.{Rest, AwaitAck, AckBody, AckEnd, Opened, Addressed, HeadOwn, HeadAll, BodyOwn, BodyAll, TailOwn, TailAll, Wait, Owed, Sending, Told, Answering, Acking, Holding, Spurious, Listening}
+use Rattle.charts.specs.Signals.{noHead}
 
 -- the acknowledgement of a good Ack, and the datum of good data; else 0
 abbrev pub goodAck : Seen → ℕ
@@ -91,27 +92,27 @@ holdIn Spurious = false
 holdIn Listening = false
 
 abbrev pub headIn : Mode → Head
-headIn Rest = record { header = 0 }
-headIn AwaitAck = record { header = 0 }
-headIn AckBody = record { header = 0 }
-headIn (AckEnd x) = record { header = 0 }
-headIn Opened = record { header = 0 }
-headIn Addressed = record { header = 0 }
-headIn HeadOwn = record { header = 0 }
-headIn HeadAll = record { header = 0 }
+headIn Rest = noHead
+headIn AwaitAck = noHead
+headIn AckBody = noHead
+headIn (AckEnd x) = noHead
+headIn Opened = noHead
+headIn Addressed = noHead
+headIn HeadOwn = noHead
+headIn HeadAll = noHead
 headIn (BodyOwn h) = h
 headIn (BodyAll h) = h
 headIn (TailOwn h x) = h
 headIn (TailAll h x) = h
-headIn Wait = record { header = 0 }
-headIn Owed = record { header = 0 }
-headIn (Sending k) = record { header = 0 }
-headIn Told = record { header = 0 }
-headIn Answering = record { header = 0 }
-headIn (Acking k a b) = record { header = 0 }
-headIn Holding = record { header = 0 }
-headIn Spurious = record { header = 0 }
-headIn Listening = record { header = 0 }
+headIn Wait = noHead
+headIn Owed = noHead
+headIn (Sending k) = noHead
+headIn Told = noHead
+headIn Answering = noHead
+headIn (Acking k a b) = noHead
+headIn Holding = noHead
+headIn Spurious = noHead
+headIn Listening = noHead
 
 abbrev pub datumIn : Mode → ℕ
 datumIn Rest = 0

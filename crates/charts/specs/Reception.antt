@@ -37,55 +37,55 @@ abbrev pub broadOf : ℕ → Head → Datum → Report
 broadOf me h (D.Good d) = Broad me h d
 broadOf me h D.Bad = Silent
 
--- what node `me` in a mode does with the signal s, which it meets as one of class c
-abbrev pub answer : ℕ → Mode → ℕ → Signal → Heard
+-- what node `me` in a mode does with the signal s, which it meets as one of class c; `label` is that of the packet that the node is sending
+abbrev pub answer : ℕ → ℕ → Mode → ℕ → Signal → Heard
 -- Rest (Link0): Start → Opened; else stay
-answer me Rest c s = cond (eqb c S.start) (goes Opened) (goes Rest)
+answer me label Rest c s = cond (eqb c S.start) (goes Opened) (goes Rest)
 -- AwaitAck (3): Prefix stay; Start → AckBody; Gap: report miss, Rest; else miss, Wait
-answer me AwaitAck c s = cond (eqb c S.prefix) (goes AwaitAck) (cond (eqb c S.start) (goes AckBody) (falls (Miss me) (Miss me) c))
+answer me label AwaitAck c s = cond (eqb c S.prefix) (goes AwaitAck) (cond (eqb c S.start) (goes AckBody) (falls (Miss me label) (Miss me label) c))
 -- AckBody (3RA): Gap: miss, Rest; another line signal: miss, Wait; else → AckEnd, remembering a if it was a good Ack
-answer me AckBody c s =
-    cond (eqb c S.gap) (tells Rest (Miss me)) (cond (isLine c) (tells Wait (Miss me))
+answer me label AckBody c s =
+    cond (eqb c S.gap) (tells Rest (Miss me label)) (cond (isLine c) (tells Wait (Miss me label))
     (cond (eqb c S.ackGood) (goes (AckEnd (Sn.Ack (ackOf s)))) (goes (AckEnd Sn.Nothing))))
 -- AckEnd (3RE): End after a good Ack: report ack a, Wait; Gap: miss, Rest; else miss, Wait. Request 1: "From AckEnd, Prefix after a good Ack now reports ack and goes to a new mode Listening"
-answer me (AckEnd (Sn.Ack a)) c s =
-    cond (eqb c S.end) (tells Wait (Acked me a)) (cond (eqb c S.prefix) (tells Listening (Acked me a)) (falls (Miss me) (Miss me) c))
-answer me (AckEnd Sn.Nothing) c s = falls (Miss me) (Miss me) c
+answer me label (AckEnd (Sn.Ack a)) c s =
+    cond (eqb c S.end) (tells Wait (Acked me a label)) (cond (eqb c S.prefix) (tells Listening (Acked me a label)) (falls (Miss me label) (Miss me label) c))
+answer me label (AckEnd Sn.Nothing) c s = falls (Miss me label) (Miss me label) c
 -- Opened (4): Gap → Rest; another line signal → Wait; else → Addressed
-answer me Opened c s = cond (eqb c S.gap) (goes Rest) (cond (isLine c) (goes Wait) (goes Addressed))
+answer me label Opened c s = cond (eqb c S.gap) (goes Rest) (cond (isLine c) (goes Wait) (goes Addressed))
 -- Addressed (4DH): Dest of itself → HeadOwn, and the node is entered as pending on the bus; Dest 63 → HeadAll; Gap → Rest; else Wait
-answer me Addressed c s =
+answer me label Addressed c s =
     cond (eqb c S.destOwn) (record { mode = HeadOwn; report = Silent; pends = true })
     (cond (eqb c S.destAll) (goes HeadAll) (falls Silent Silent c))
 -- HeadOwn / HeadAll (4RH): good Header → BodyOwn / BodyAll; else Owed / Wait. HeadAll on Gap → Rest
-answer me HeadOwn c s = cond (eqb c S.headerGood) (goes (BodyOwn (headOf s))) (goes Owed)
-answer me HeadAll c s = cond (eqb c S.headerGood) (goes (BodyAll (headOf s))) (falls Silent Silent c)
+answer me label HeadOwn c s = cond (eqb c S.headerGood) (goes (BodyOwn (headOf s))) (goes Owed)
+answer me label HeadAll c s = cond (eqb c S.headerGood) (goes (BodyAll (headOf s))) (falls Silent Silent c)
 -- BodyOwn / BodyAll (4RD): Data, good or bad → TailOwn / TailAll; else Owed / Wait. BodyAll on Gap → Rest
-answer me (BodyOwn h) c s =
+answer me label (BodyOwn h) c s =
     cond (eqb c S.dataGood) (goes (TailOwn h (D.Good (datumOf s)))) (cond (eqb c S.dataBad) (goes (TailOwn h D.Bad)) (goes Owed))
-answer me (BodyAll h) c s =
+answer me label (BodyAll h) c s =
     cond (eqb c S.dataGood) (goes (TailAll h (D.Good (datumOf s)))) (cond (eqb c S.dataBad) (goes (TailAll h D.Bad)) (falls Silent Silent c))
 -- TailOwn: End or Prefix: report good h d, or dcrc h for bad data, and go to Told; else Owed
-answer me (TailOwn h d) c s = cond (closes c) (tells Told (toldOf me h d)) (goes Owed)
+answer me label (TailOwn h d) c s = cond (closes c) (tells Told (toldOf me h d)) (goes Owed)
 -- TailAll: End or Prefix: report broad h d if the data were good, else nothing, and go to Rest; Gap → Rest; else Wait
-answer me (TailAll h d) c s = cond (closes c) (tells Rest (broadOf me h d)) (falls Silent Silent c)
+answer me label (TailAll h d) c s = cond (closes c) (tells Rest (broadOf me h d)) (falls Silent Silent c)
 -- Wait (WSA): Gap → Rest; else stay
-answer me Wait c s = falls Silent Silent c
+answer me label Wait c s = falls Silent Silent c
 -- Owed (WSA with a grant to come) stays
-answer me Owed c s = goes Owed
+answer me label Owed c s = goes Owed
 -- Sending (2), Told (4DRec), Answering (5), Acking (6), Holding (7), Spurious stay on every signal
-answer me (Sending k) c s = goes (Sending k)
-answer me Told c s = goes Told
-answer me Answering c s = goes Answering
-answer me (Acking k a b) c s = goes (Acking k a b)
-answer me Holding c s = goes Holding
-answer me Spurious c s = goes Spurious
+answer me label (Sending k) c s = goes (Sending k)
+answer me label Told c s = goes Told
+answer me label Answering c s = goes Answering
+answer me label (Acking k a b) c s = goes (Acking k a b)
+answer me label Holding c s = goes Holding
+answer me label Spurious c s = goes Spurious
 -- Listening (request 1): "Start → Opened, Prefix stay, Gap → Rest, else Wait"
-answer me Listening c s = cond (eqb c S.start) (goes Opened) (cond (eqb c S.prefix) (goes Listening) (falls Silent Silent c))
+answer me label Listening c s = cond (eqb c S.start) (goes Opened) (cond (eqb c S.prefix) (goes Listening) (falls Silent Silent c))
 
--- what each node does with a signal, in each mode
+-- what each node does with a signal, by the label of the packet that it is sending and its mode
 abbrev pub Reception : Type 0
-Reception = ℕ → Mode → Signal → Heard
+Reception = ℕ → ℕ → Mode → Signal → Heard
 
 unfoldable pub hears : Reception
-hears me m s = answer me m (classOf me s) s
+hears me label m s = answer me label m (classOf me s) s

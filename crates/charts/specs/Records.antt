@@ -1,4 +1,4 @@
--- An action record looked at by the numbers 2 to 6, in that order.
+-- An action record looked at by the numbers 2 to 5, 13 and 6, in that order.
 use mathlib.Core.Bool.{Bool, cond, _&&_, _||_, not}
 use Prim.Native.Nat.{ℕ}
 use lib.Dec.{eqb, ltb}
@@ -16,7 +16,7 @@ use Rattle.charts.specs.Signals.{everybody}
 abbrev pub isKind : ℕ → Bool
 isKind k = ltb 0 k && ltb k 11
 
--- the fields that each kind names: node (1 to 4), address (1, 7), acknowledgement and hold (3), header and data (1)
+-- the fields that each kind names: node (1 to 4), address (1, 7), acknowledgement and hold (3), label, header and data (1)
 abbrev pub namesNode : ℕ → Bool
 namesNode k = ltb k 5
 
@@ -33,21 +33,25 @@ namesPacket k = eqb k 1
 abbrev pub zeroUnless : Bool → ℕ → Bool
 zeroUnless named x = named || eqb x 0
 
--- no "field that the kind doesn't name, or one of the record's three zeros, is not 0"
+-- no "field that the kind doesn't name, or one of the record's two zeros, is not 0"
 unfoldable pub clean : Action → Bool
 clean a =
-    eqb (a .byte5) 0 && (eqb (a .byte6) 0 && (eqb (a .byte7) 0
+    eqb (a .byte6) 0 && (eqb (a .byte7) 0
     && (zeroUnless (namesNode (a .kind)) (a .node) && (zeroUnless (namesAddress (a .kind)) (a .address)
     && (zeroUnless (namesAnswer (a .kind)) (a .ack) && (zeroUnless (namesAnswer (a .kind)) (a .hold)
-    && (zeroUnless (namesPacket (a .kind)) (a .header) && zeroUnless (namesPacket (a .kind)) (a .datum))))))))
+    && (zeroUnless (namesPacket (a .kind)) (a .label) && (zeroUnless (namesPacket (a .kind)) (a .header) && zeroUnless (namesPacket (a .kind)) (a .datum))))))))
 
 -- an address "below n" or 63
 abbrev pub isAddress : ℕ → ℕ → Bool
 isAddress n a = ltb a n || eqb a everybody
 
+-- "the label for kind 1, 0 to 63"
+abbrev pub isLabel : ℕ → Bool
+isLabel x = ltb x 64
+
 -- the action of a record, by its kind
 abbrev pub packetOf : Action → Packet
-packetOf a = record { to = a .address; head = record { header = a .header }; datum = a .datum }
+packetOf a = record { to = a .address; head = record { header = a .header; label = a .label }; datum = a .datum }
 
 unfoldable pub moveOf : Action → Move
 moveOf a =
@@ -62,12 +66,13 @@ moveOf a =
     (cond (eqb (a .kind) 9) GapNext
     Reset))))))))
 
--- "then 2 to 6": the first number whose condition holds, or the action
+-- "then 2 to 6", and 13 "looked at after 5": the first number whose condition holds, or the action
 unfoldable pub read : ℕ → Action → Decoded
 read n a =
     cond (not (isKind (a .kind))) (Refused N.wrong-kind)
     (cond (not (clean a)) (Refused N.stray-field)
     (cond (namesNode (a .kind) && not (ltb (a .node) n)) (Refused N.wrong-node)
     (cond (namesAddress (a .kind) && not (isAddress n (a .address))) (Refused N.wrong-address)
+    (cond (not (isLabel (a .label))) (Refused N.wrong-label)
     (cond (not (ltb (a .ack) 16 && ltb (a .hold) 2)) (Refused N.wrong-answer)
-    (Accepted (moveOf a))))))
+    (Accepted (moveOf a)))))))

@@ -94,17 +94,20 @@ isEnd s = eqb (kindOf s) 1
 abbrev pub isPrefix : Signal → Bool
 isPrefix s = eqb (kindOf s) 2
 
--- what a Header carries (no other signal is asked for it)
+-- what a Header carries, request 3's label "inside" it (no other signal is asked for it)
+abbrev pub noHead : Head
+noHead = record { header = 0; label = 0 }
+
 abbrev pub headOf : Signal → Head
-headOf Start = record { header = 0 }
-headOf End = record { header = 0 }
-headOf Prefix = record { header = 0 }
-headOf Gap = record { header = 0 }
-headOf Dhead = record { header = 0 }
-headOf (Dest a) = record { header = 0 }
+headOf Start = noHead
+headOf End = noHead
+headOf Prefix = noHead
+headOf Gap = noHead
+headOf Dhead = noHead
+headOf (Dest a) = noHead
 headOf (Header h good) = h
-headOf (Data d good) = record { header = 0 }
-headOf (Ack a good) = record { header = 0 }
+headOf (Data d good) = noHead
+headOf (Ack a good) = noHead
 
 -- what Data carries
 abbrev pub datumOf : Signal → ℕ

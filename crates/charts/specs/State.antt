@@ -12,6 +12,7 @@ use Rattle.charts.specs.declared.Phase.the-variants.{Idle, Busy, Deliver
 use Rattle.charts.specs.declared.Cell.{Cell}
 use Rattle.charts.specs.declared.Marking.{Marking}
 use Rattle.charts.specs.declared.Marking.the-variants as M
+use Rattle.charts.specs.Signals.{noHead}
 
 -- "The bus is Idle, Busy, Delivering (sender, signal, next receiver), Granting or Gapping (next node). It keeps four marks for each node: won, pending, holder, misled."
 -- "The bus keeps one more mark" (request 1): an acknowledgement was closed by a Prefix, and what its sender puts out next is concatenated to it
@@ -120,7 +121,7 @@ remarked (M.Concatenated b) s = record { n = s .n; phase = s .phase; concatenate
 
 -- "A fresh bus is Idle with no marks, every node in Rest, buffers empty"; the packet being sent is "all 0 on a fresh bus"
 abbrev pub nothing : Packet
-nothing = record { to = 0; head = record { header = 0 }; datum = 0 }
+nothing = record { to = 0; head = noHead; datum = 0 }
 
 abbrev pub freshCell : Cell
 freshCell = record { mode = Rest; buffer = Empty; sending = nothing; won = false; pending = false; holder = false; misled = false }

@@ -41,7 +41,7 @@ comesTo s m = outcome hears (s .n) (s .phase) (s .concatenated) (about s m) (s .
 unfoldable pub play : State → Move → Result
 play s m = carryOut s (about s m) (comesTo s m)
 
--- "A step looks at 12, then 2 to 7."
+-- "A step looks at 12, then 2 to 7" (13 after 5).
 unfoldable pub look : State → Action → Decoded
 look s a = cond (valid s) (read (s .n) a) (Refused N.not-valid)
 

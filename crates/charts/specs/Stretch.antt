@@ -1,4 +1,4 @@
--- The acknowledgement claim of demand 3 once more, in a form that speaks of places in the list of events alone: it uses no book. proofs/Stretches.antt proves it from the first form.
+-- The claim of demand 3 about confirmations once more, in a form that speaks of places in the list of events alone: it uses no book. proofs/Stretches.antt proves it from the first form.
 use mathlib.Core.Path.{_≡_}
 use mathlib.Core.Bool.{Bool, true, false, cond, _&&_, _||_, not}
 use mathlib.Core.List.{List, [], _∷_, _++_}
@@ -47,9 +47,9 @@ abbrev pub wonOf : ℕ → Report → Bool
 wonOf i Silent = false
 wonOf i (Won j) = eqb i j
 wonOf i (Lost j) = false
-wonOf i (Sent j) = false
-wonOf i (Acked j a) = false
-wonOf i (Miss j) = false
+wonOf i (Sent j x) = false
+wonOf i (Acked j a x) = false
+wonOf i (Miss j x) = false
 wonOf i (Good j h d) = false
 wonOf i (Dcrc j h) = false
 wonOf i (Broad j h d) = false
@@ -58,9 +58,9 @@ abbrev pub confirmationOf : ℕ → Report → Bool
 confirmationOf i Silent = false
 confirmationOf i (Won j) = false
 confirmationOf i (Lost j) = false
-confirmationOf i (Sent j) = eqb i j
-confirmationOf i (Acked j a) = eqb i j
-confirmationOf i (Miss j) = eqb i j
+confirmationOf i (Sent j x) = eqb i j
+confirmationOf i (Acked j a x) = eqb i j
+confirmationOf i (Miss j x) = eqb i j
 confirmationOf i (Good j h d) = false
 confirmationOf i (Dcrc j h) = false
 confirmationOf i (Broad j h d) = false
@@ -94,9 +94,9 @@ abbrev pub tellsNone : Report → Bool
 tellsNone Silent = true
 tellsNone (Won i) = true
 tellsNone (Lost i) = true
-tellsNone (Sent i) = true
-tellsNone (Acked i a) = true
-tellsNone (Miss i) = true
+tellsNone (Sent i x) = true
+tellsNone (Acked i a x) = true
+tellsNone (Miss i x) = true
 tellsNone (Good i h d) = false
 tellsNone (Dcrc i h) = false
 tellsNone (Broad i h d) = false
@@ -116,24 +116,36 @@ quiet [] = true
 quiet (refusal k ∷ l) = quiet l
 quiet (accepted m r ∷ l) = givesNone m && (tellsNone r && quiet l)
 
--- the events before an `ack a` of node i: its request's start, later one told report, later one respond, and between these and up to the ack nothing told, no respond, no other start and no confirmation of node i
-pub record Witnessed (i a : ℕ) (before : List Event) : Type 0 where
-  pub packet : Packet
-  pub early : List Event
-  pub start : Event
+-- the events from a request's start to its `ack a`: one told report, later one respond, and beside these nothing told and no respond
+pub record Acknowledged (p : Packet) (a : ℕ) (since : List Event) : Type 0 where
   pub first : List Event
   pub tell : Event
   pub second : List Event
   pub give : Event
   pub third : List Event
-  pub split : before ≡ early ++ (start ∷ (first ++ (tell ∷ (second ++ (give ∷ third)))))
-  pub starts : Starts i early start packet
-  pub last : noOther i (held i (early ++ (start ∷ []))) (first ++ (tell ∷ (second ++ (give ∷ third)))) ≡ true
-  pub tells : Tells packet tell
-  pub answers : Gives packet a give
+  pub split : since ≡ first ++ (tell ∷ (second ++ (give ∷ third)))
+  pub tells : Tells p tell
+  pub answers : Gives p a give
   pub only : (quiet first ≡ true) × (quiet second ≡ true) × (quiet third ≡ true)
 
+-- node i's confirmation of its request of the packet p, with the events since that request's start: it "bears the label of its own request"
+pub data Confirms (i : ℕ) (p : Packet) (since : List Event) : Report → Type 0 where
+  sent : Confirms i p since (Sent i (p .head .label))
+  acked : {a : ℕ} → Acknowledged p a since → Confirms i p since (Acked i a (p .head .label))
+  missed : Confirms i p since (Miss i (p .head .label))
+
+-- the events before a confirmation r of node i: the start of the request that it confirms, and since then no other start and no confirmation of node i
+pub record Witnessed (i : ℕ) (r : Report) (before : List Event) : Type 0 where
+  pub packet : Packet
+  pub early : List Event
+  pub start : Event
+  pub since : List Event
+  pub split : before ≡ early ++ (start ∷ since)
+  pub starts : Starts i early start packet
+  pub last : noOther i (held i (early ++ (start ∷ []))) since ≡ true
+  pub confirms : Confirms i packet since r
+
 -- the claim about a list of action records, played from the fresh bus of n nodes
-abbrev pub EveryAck : ℕ → List Action → Type 0
-EveryAck n l =
-    (before later : List Event) (m : Move) (i a : ℕ) → history n l ≡ before ++ (accepted m (Acked i a) ∷ later) → Witnessed i a before
+abbrev pub EveryConfirmation : ℕ → List Action → Type 0
+EveryConfirmation n l =
+    (before later : List Event) (m : Move) (r : Report) (i : ℕ) → confirmationOf i r ≡ true → history n l ≡ before ++ (accepted m r ∷ later) → Witnessed i r before

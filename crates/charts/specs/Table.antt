@@ -9,6 +9,7 @@ use Rattle.charts.specs.declared.Heard.{Heard}
 use Rattle.charts.specs.declared.Entry.{Entry}
 use Rattle.charts.specs.Modes.{placeOf}
 use Rattle.charts.specs.Places.{modes}
+use Rattle.charts.specs.Signals.{noHead}
 use Rattle.charts.specs.Words.{wordOf}
 use Rattle.charts.specs.Reception.{answer}
 
@@ -18,8 +19,8 @@ entryOf x = record { place = placeOf (x .mode); word = wordOf (x .report); pends
 
 -- a mode at each place; past the table's 24 it is Spurious, which stays
 abbrev pub modeAt : ℕ → Mode
-modeAt p = getD (modes 0 0 false (record { header = 0 }) 0) p Spurious
+modeAt p = getD (modes 0 0 false noHead 0) p Spurious
 
--- the cell of a mode's place and a signal's class: the chart at a mode of that place. (What the mode remembers and the signal carries changes no cell: proofs/Places.antt.)
+-- the cell of a mode's place and a signal's class: the chart at a mode of that place. (The node's number and label, what the mode remembers and the signal carries change no cell: proofs/Places.antt.)
 abbrev pub entry : ℕ → ℕ → Entry
-entry p c = entryOf (answer 0 (modeAt p) c Start)
+entry p c = entryOf (answer 0 0 (modeAt p) c Start)

@@ -8,12 +8,13 @@ use Rattle.charts.specs.declared.Mode.{Mode}
 use Rattle.charts.specs.declared.Mode.the-variants.{Rest, AwaitAck, AckBody, AckEnd, Opened, Addressed, HeadOwn, HeadAll, BodyOwn, BodyAll, TailOwn, TailAll, Wait, Owed, Sending, Told, Answering, Acking, Holding, Spurious, Listening}
 use Rattle.charts.specs.declared.Signal.{Signal}
 use Rattle.charts.specs.declared.Signal.the-variants.{Start, End, Prefix, Gap, Dhead, Dest, Header, Data, Ack}
+use Rattle.charts.specs.declared.Packet.{Packet}
 use Rattle.charts.specs.declared.Buffer.{Buffer}
 use Rattle.charts.specs.declared.Buffer.the-variants.{Empty, Full}
 use Rattle.charts.specs.declared.Phase.{Phase}
 use Rattle.charts.specs.declared.Phase.the-variants.{Idle, Busy, Delivering, Granting, Gapping}
 use Rattle.charts.specs.declared.Cell.{Cell}
-use Rattle.charts.specs.Records.{isAddress}
+use Rattle.charts.specs.Records.{isAddress, isLabel}
 use Rattle.charts.specs.State.{State, every}
 
 -- "n not 2–63" is refused
@@ -28,7 +29,7 @@ abbrev pub seenFits : Seen → Bool
 seenFits (Sn.Ack a) = isAck a
 seenFits Sn.Nothing = true
 
--- "a step of Sending over 5 or of Acking over 2"
+-- "a step of Sending over 5 or of Acking over 2"; request 3: "A state handed in that holds a label over 63", in a header that a mode remembers, in a packet or in the Header under way
 unfoldable pub modeFits : Mode → Bool
 modeFits Rest = true
 modeFits AwaitAck = true
@@ -38,10 +39,10 @@ modeFits Opened = true
 modeFits Addressed = true
 modeFits HeadOwn = true
 modeFits HeadAll = true
-modeFits (BodyOwn h) = true
-modeFits (BodyAll h) = true
-modeFits (TailOwn h d) = true
-modeFits (TailAll h d) = true
+modeFits (BodyOwn h) = isLabel (h .label)
+modeFits (BodyAll h) = isLabel (h .label)
+modeFits (TailOwn h d) = isLabel (h .label)
+modeFits (TailAll h d) = isLabel (h .label)
 modeFits Wait = true
 modeFits Owed = true
 modeFits (Sending k) = ltb k 6
@@ -53,12 +54,15 @@ modeFits Spurious = true
 modeFits Listening = true
 
 -- "an address neither below n nor 63": that of the packet in a full buffer, of the packet being sent, and of the Dest under way
+abbrev pub packetFits : ℕ → Packet → Bool
+packetFits n p = isAddress n (p .to) && isLabel (p .head .label)
+
 abbrev pub bufferFits : ℕ → Buffer → Bool
 bufferFits n Empty = true
-bufferFits n (Full p) = isAddress n (p .to)
+bufferFits n (Full p) = packetFits n p
 
 unfoldable pub cellFits : ℕ → Cell → Bool
-cellFits n c = modeFits (c .mode) && (bufferFits n (c .buffer) && isAddress n (c .sending .to))
+cellFits n c = modeFits (c .mode) && (bufferFits n (c .buffer) && packetFits n (c .sending))
 
 abbrev pub signalFits : ℕ → Signal → Bool
 signalFits n Start = true
@@ -67,7 +71,7 @@ signalFits n Prefix = true
 signalFits n Gap = true
 signalFits n Dhead = true
 signalFits n (Dest a) = isAddress n a
-signalFits n (Header h good) = true
+signalFits n (Header h good) = isLabel (h .label)
 signalFits n (Data d good) = true
 signalFits n (Ack a good) = isAck a
 

@@ -34,9 +34,9 @@ abbrev pub wordOf : Report → ℕ
 wordOf Silent = silent
 wordOf (Won i) = won
 wordOf (Lost i) = lost
-wordOf (Sent i) = sent
-wordOf (Acked i a) = acked
-wordOf (Miss i) = miss
+wordOf (Sent i x) = sent
+wordOf (Acked i a x) = acked
+wordOf (Miss i x) = miss
 wordOf (Good i h d) = good
 wordOf (Dcrc i h) = dcrc
 wordOf (Broad i h d) = broad

@@ -2,12 +2,14 @@
 // The charts (specs/) and the code of the other crates share them. Nothing here runs.
 pub mod words;
 
-// What a Header signal carries, and what stays of it in packets, modes and reports.
+// What a Header signal carries, and what stays of it in packets, modes and reports: the header and the packet's transaction label, which
+// "travels with the packet through buffer, sending and reception, on the bus inside the Header signal".
 pub struct Head {
     pub header: u32,
+    pub label: u8,
 }
 
-// A packet: its address (63: all nodes), its header and its datum.
+// A packet: its address (63: all nodes), its header with its label, and its datum.
 pub struct Packet {
     pub to: u8,
     pub head: Head,
@@ -114,14 +116,14 @@ pub struct Cell {
     pub misled: bool,
 }
 
-// A report with its node, or none.
+// A report with its node, or none. Sent, Acked and Miss end with the label of the packet that the node is sending; Good, Dcrc and Broad bear that of the header they read.
 pub enum Report {
     Silent,
     Won(u8),
     Lost(u8),
-    Sent(u8),
-    Acked(u8, u8),
-    Miss(u8),
+    Sent(u8, u8),
+    Acked(u8, u8, u8),
+    Miss(u8, u8),
     Good(u8, Head, u32),
     Dcrc(u8, Head),
     Broad(u8, Head, u32),
@@ -171,14 +173,14 @@ pub enum Marking {
     Concatenated(bool),
 }
 
-// An action record as a run file has it. Bytes 5, 6 and 7 are its three zeros.
+// An action record as a run file has it. Byte 5 is the label; bytes 6 and 7 are its two zeros.
 pub struct Action {
     pub kind: u8,
     pub node: u8,
     pub address: u8,
     pub ack: u8,
     pub hold: u8,
-    pub byte5: u8,
+    pub label: u8,
     pub byte6: u8,
     pub byte7: u8,
     pub header: u32,

@@ -37,7 +37,7 @@ def specs():
     accessor("stepIn", "ℕ", "k", "0", "the step, acknowledgement, hold, header and datum that a mode remembers")
     accessor("ackIn", "ℕ", "a", "0", "")
     accessor("holdIn", "Bool", "b", "false", "")
-    accessor("headIn", "Head", "h", "record { header = 0 }", "")
+    accessor("headIn", "Head", "h", "noHead", "")
     accessor("datumIn", "ℕ", "d", "0", "")
     print("-- the modes by their places\nabbrev pub modes : ℕ → ℕ → Bool → Head → ℕ → List Mode\nmodes k a b h d =\n    " + " ∷ ".join(NAMES) + " ∷ []")
 
