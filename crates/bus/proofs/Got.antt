@@ -24,7 +24,7 @@ use Rattle.charts.specs.Signals.{isEnd}
 use Rattle.charts.specs.Reception.{Reception}
 use Rattle.charts.specs.Arrivals.{arrives}
 use Rattle.charts.specs.State.{upd, some}
-use Rattle.charts.specs.Actions.{does, onward, nextOther, delivers, deliverWith, carry, takesGap, markingAtIdle, gapsTo, gap, outcome}
+use Rattle.charts.specs.Actions.{receives, does, onward, nextOther, delivers, deliverWith, carry, takesGap, markingAtIdle, gapsTo, gap, outcome}
 use Rattle.bus.specs.Gets.{carried, gapped, incoming, markingIn, got, gets}
 
 -- a signal makes no bus Idle
@@ -62,7 +62,7 @@ module _ (h : Reception) (n : ℕ) (c : Cell) (ps : ℕ → Bool) where
   gap-is Granting = refl
   gap-is (Gapping j) = go (ltb (suc j) n)
     where
-      go : (b : Bool) → does (h j (c .mode) S.Gap .report) (cond b (Gapping (suc j)) Idle) (takesGap h j c) (markingIn (cond b (Gapping (suc j)) Idle))
+      go : (b : Bool) → does (receives h j c S.Gap .report) (cond b (Gapping (suc j)) Idle) (takesGap h j c) (markingIn (cond b (Gapping (suc j)) Idle))
           ≡ cond b (gapsTo h (Gapping (suc j)) M.Nothing j c) (gapsTo h Idle markingAtIdle j c)
       go true = refl
       go false = refl

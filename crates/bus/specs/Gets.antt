@@ -18,7 +18,7 @@ use Rattle.charts.specs.declared.Move.the-variants.{Request, Arbitrate, Respond
 use Rattle.charts.specs.Reception.{Reception}
 use Rattle.charts.specs.Arrivals.{arrives}
 use Rattle.charts.specs.State.{upd, isIdle}
-use Rattle.charts.specs.Actions.{Outcome, closed, does, onward, hearing, markingAtIdle, nextOf}
+use Rattle.charts.specs.Actions.{Outcome, closed, does, onward, receives, hearing, markingAtIdle, nextOf}
 
 -- what comes to that node, which may be misled
 abbrev pub carried : Phase → Bool → Way → Arrival
@@ -66,4 +66,4 @@ got n p ps r c = let q = phaseAfter n p (upd ps (nextOf p) (c .pending)) in does
 abbrev pub gets : Reception → ℕ → Phase → Cell → (ℕ → Bool) → Arrival → Outcome
 gets h n p c ps Closed = closed
 gets h n p c ps Lost = got n p ps R.Silent c
-gets h n p c ps (Hears t misleads) = got n p ps (h (nextOf p) (c .mode) t .report) (hearing c (h (nextOf p) (c .mode) t) misleads)
+gets h n p c ps (Hears t misleads) = got n p ps (receives h (nextOf p) c t .report) (hearing c (receives h (nextOf p) c t) misleads)

@@ -421,7 +421,8 @@ pub(crate) fn hear(
         Arrival::Lost => got(n, phase, pending, Report::Silent, c),
         Arrival::Hears(s, misleads) => {
             let mode = c.mode;
-            let heard = link::receive(table, phases::next_of(phase), mode, s);
+            let label = cells::label_of(c);
+            let heard = link::receive(table, phases::next_of(phase), label, mode, s);
             let report = heard.report;
             got(n, phase, pending, report, hearing(c, heard, misleads))
         }

@@ -1,6 +1,7 @@
 // A node's record with its four marks: taken together, taken apart, and with one field set.
 ghost use mathlib.Core.Path.{_≡_};
 ghost use Rattle.charts.specs.State.{setMode, setBuffer, setSending, setWon, setPending, setHolder, setMisled};
+ghost use Rattle.charts.specs.Actions.{labelOf};
 ghost use Rattle.charts.specs.View.{cellOf};
 use charts::Buffer;
 use charts::Cell;
@@ -23,6 +24,15 @@ pub fn cell_of(x: Node, won: bool, pending: bool, holder: bool, misled: bool) ->
         holder: holder,
         misled: misled,
     }
+}
+
+// The label of the packet that the node is sending.
+pub(crate) fn label_of(c: Cell) -> u8
+    ensures { λ r. ⌜ r ≡ labelOf c ⌝ }
+{
+    let sending = c.sending;
+    let head = sending.head;
+    head.label
 }
 
 pub fn node_of(c: Cell) -> Node

@@ -44,7 +44,10 @@ fn blank(n: u8) -> Bus
 {
     let packet = Packet {
         to: 0,
-        head: Head { header: 0 },
+        head: Head {
+            header: 0,
+            label: 0,
+        },
         datum: 0,
     };
     let node = Node {

@@ -2,9 +2,8 @@
 ghost use mathlib.Core.Path.{_≡_};
 ghost use mathlib.Core.Bool.{Bool, _&&_};
 ghost use Prim.Native.Nat.{_≤_};
-ghost use Rattle.charts.specs.Records.{isAddress};
 ghost use Rattle.charts.specs.State.{every};
-ghost use Rattle.charts.specs.Valid.{isSize, isAck, seenFits, modeFits, bufferFits, cellFits, signalFits, phaseFits, valid};
+ghost use Rattle.charts.specs.Valid.{isSize, isAck, seenFits, modeFits, packetFits, bufferFits, cellFits, signalFits, phaseFits, valid};
 ghost use Rattle.charts.specs.View.{view, cellOf};
 ghost use Rattle.bus.specs.Plans.{isReady};
 use crate::bools;
@@ -13,6 +12,7 @@ use charts::Buffer;
 use charts::Bus;
 use charts::Mode;
 use charts::Node;
+use charts::Packet;
 use charts::Phase;
 use charts::Seen;
 use charts::Signal;
@@ -22,13 +22,6 @@ pub(crate) fn is_size(n: u8) -> bool
     ensures { λ r. ⌜ r ≡ isSize n ⌝ }
 {
     bools::both(1 < n, n < 64)
-}
-
-// An address "neither below n nor 63" is refused.
-fn is_address(n: u8, address: u8) -> bool
-    ensures { λ r. ⌜ r ≡ isAddress n address ⌝ }
-{
-    bools::either(address < n, address == 63)
 }
 
 // "an acknowledgement over 15" is refused.
@@ -59,10 +52,10 @@ fn mode_fits(mode: Mode) -> bool
         Mode::Addressed => true,
         Mode::HeadOwn => true,
         Mode::HeadAll => true,
-        Mode::BodyOwn(_) => true,
-        Mode::BodyAll(_) => true,
-        Mode::TailOwn(_, _) => true,
-        Mode::TailAll(_, _) => true,
+        Mode::BodyOwn(h) => record::is_label(h.label),
+        Mode::BodyAll(h) => record::is_label(h.label),
+        Mode::TailOwn(h, _) => record::is_label(h.label),
+        Mode::TailAll(h, _) => record::is_label(h.label),
         Mode::Wait => true,
         Mode::Owed => true,
         Mode::Sending(step) => step < 6,
@@ -75,12 +68,19 @@ fn mode_fits(mode: Mode) -> bool
     }
 }
 
+fn packet_fits(n: u8, p: Packet) -> bool
+    ensures { λ r. ⌜ r ≡ packetFits n p ⌝ }
+{
+    let head = p.head;
+    bools::both(record::is_address(n, p.to), record::is_label(head.label))
+}
+
 fn buffer_fits(n: u8, buffer: Buffer) -> bool
     ensures { λ r. ⌜ r ≡ bufferFits n buffer ⌝ }
 {
     match buffer {
         Buffer::Empty => true,
-        Buffer::Full(p) => is_address(n, p.to),
+        Buffer::Full(p) => packet_fits(n, p),
     }
 }
 
@@ -91,7 +91,7 @@ fn node_fits(n: u8, x: Node) -> bool
     let mode = x.mode;
     let buffer = x.buffer;
     let sending = x.sending;
-    let packets = bools::both(buffer_fits(n, buffer), is_address(n, sending.to));
+    let packets = bools::both(buffer_fits(n, buffer), packet_fits(n, sending));
     bools::both(mode_fits(mode), packets)
 }
 
@@ -104,8 +104,8 @@ fn signal_fits(n: u8, s: Signal) -> bool
         Signal::Prefix => true,
         Signal::Gap => true,
         Signal::Dhead => true,
-        Signal::Dest(a) => is_address(n, a),
-        Signal::Header(_, _) => true,
+        Signal::Dest(a) => record::is_address(n, a),
+        Signal::Header(h, _) => record::is_label(h.label),
         Signal::Data(_, _) => true,
         Signal::Ack(a, _) => is_ack(a),
     }

@@ -28,13 +28,13 @@ pub cell-is : (p c : ℕ) → p < 24 → c < 14 → getD cells (indexOf p c) 0 �
 cell-is p c l k = eqb-true _ _ (pairs-at (λ p c. eqb (getD cells (indexOf p c) 0) (code (entry p c))) 24 14 agrees p c l k)
 
 -- a node that reads the cell of what the chart says does just that: nothing that a mode remembers is lost
-kept : (me : ℕ) (m : Mode) (c : ℕ) (s : Signal) → reads (code (entryOf (answer me m c s))) me m s ≡ answer me m c s
-kept me m c s = go m
+kept : (me label : ℕ) (m : Mode) (c : ℕ) (s : Signal) → reads (code (entryOf (answer me label m c s))) me label m s ≡ answer me label m c s
+kept me label m c s = go m
   where
     Kept : Mode → Heard → Type 0
-    Kept m x = reads (code (entryOf x)) me m s ≡ x
+    Kept m x = reads (code (entryOf x)) me label m s ≡ x
 
-    go : (m : Mode) → Kept m (answer me m c s)
+    go : (m : Mode) → Kept m (answer me label m c s)
     go Rest = pick (Kept Rest) (eqb c S.start) _ _ refl refl
     go AwaitAck = pick (Kept AwaitAck) (eqb c S.prefix) _ _ refl (pick (Kept AwaitAck) (eqb c S.start) _ _ refl (pick (Kept AwaitAck) (eqb c S.gap) _ _ refl refl))
     go AckBody = pick (Kept AckBody) (eqb c S.gap) _ _ refl (pick (Kept AckBody) (isLine c) _ _ refl (pick (Kept AckBody) (eqb c S.ackGood) _ _ refl refl))
@@ -60,12 +60,12 @@ kept me m c s = go m
     go Spurious = refl
     go Listening = pick (Kept Listening) (eqb c S.start) _ _ refl (pick (Kept Listening) (eqb c S.prefix) _ _ refl (pick (Kept Listening) (eqb c S.gap) _ _ refl refl))
 
-by-table : (me : ℕ) (m : Mode) (s : Signal) → heardBy cells me m s ≡ hears me m s
+by-table : (me label : ℕ) (m : Mode) (s : Signal) → heardBy cells me label m s ≡ hears me label m s
 unfolding heardBy hears
-by-table me m s =
+by-table me label m s =
     let c = classOf me s in
-    ap (λ x. reads x me m s) (cell-is (placeOf m) c (place-lt m) (class-lt me s) ∙ ap code (sym (key me m c s))) ∙ kept me m c s
+    ap (λ x. reads x me label m s) (cell-is (placeOf m) c (place-lt m) (class-lt me s) ∙ ap code (sym (key me label m c s))) ∙ kept me label m c s
 
 -- what nodes do by the chart's table is what they do by the chart
 pub table-hears : heardBy cells ≡ hears
-table-hears = λ i me m s. by-table me m s i
+table-hears = λ i me label m s. by-table me label m s i

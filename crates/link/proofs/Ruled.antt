@@ -10,6 +10,7 @@ use Rattle.charts.specs.declared.Mode.the-variants.{Spurious}
 use Rattle.charts.specs.declared.Signal.the-variants.{Start}
 use Rattle.charts.specs.Modes as P
 use Rattle.charts.specs.Places.{modes}
+use Rattle.charts.specs.Signals.{noHead}
 use Rattle.charts.specs.Reception.{answer}
 use Rattle.charts.specs.Table.{entryOf, entry}
 use Rattle.charts.proofs.Tools.{by-test, or-true, table-at, mem}
@@ -26,4 +27,4 @@ pub spurious-rule : (p c : ℕ) → mem p ruled ≡ false → entry p c ≡ tell
 spurious-rule p c e =
     by-test (ltb p 24)
     (λ t. ap (λ p. entry p c) (eqb-true p P.spurious (or-true _ _ (table-at (λ p. mem p ruled || eqb p P.spurious) 24 tt p (ltb-true p 24 t)) e)))
-    (λ t. ap (λ m. entryOf (answer 0 m c Start)) (List·getD-eq-default (modes 0 0 false (record { header = 0 }) 0) Spurious (ltb-false p 24 t)))
+    (λ t. ap (λ m. entryOf (answer 0 0 m c Start)) (List·getD-eq-default (modes 0 0 false noHead 0) Spurious (ltb-false p 24 t)))

@@ -74,19 +74,19 @@ enters p m k s =
     (cond (eqb p P.told) Told
     (cond (eqb p P.listening) Listening m)))))))))))))))))
 
--- the report with that first word of node `me`, of what it has kept
-abbrev pub says : ℕ → ℕ → Kept → Report
-says w me k =
-    cond (eqb w W.acked) (Acked me (k .ack))
-    (cond (eqb w W.miss) (Miss me)
+-- the report with that first word of node `me`, of the label of the packet that it is sending and of what it has kept
+abbrev pub says : ℕ → ℕ → ℕ → Kept → Report
+says w me label k =
+    cond (eqb w W.acked) (Acked me (k .ack) label)
+    (cond (eqb w W.miss) (Miss me label)
     (cond (eqb w W.good) (Good me (k .head) (k .datum))
     (cond (eqb w W.dcrc) (Dcrc me (k .head))
     (cond (eqb w W.broad) (Broad me (k .head) (k .datum)) Silent))))
 
 -- what the cell x makes of node `me` in mode m by the signal s: a cell that names its own place and nothing else leaves it as it is
 abbrev pub reads : ℕ → Reception
-reads x me m s = cond (eqb x (placeOf m)) (goes m) (record { mode = enters (placeIn x) m (remembered m) s; report = says (wordIn x) me (remembered m); pends = pendsIn x })
+reads x me label m s = cond (eqb x (placeOf m)) (goes m) (record { mode = enters (placeIn x) m (remembered m) s; report = says (wordIn x) me label (remembered m); pends = pendsIn x })
 
 -- what each node does with a signal by the table t, whatever numbers it holds
 unfoldable pub heardBy : List ℕ → Reception
-heardBy t me m s = reads (getD t (indexOf (placeOf m) (classOf me s)) 0) me m s
+heardBy t me label m s = reads (getD t (indexOf (placeOf m) (classOf me s)) 0) me label m s

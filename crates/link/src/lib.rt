@@ -49,14 +49,14 @@ fn enter(place: u8, mode: Mode, kept: Kept, s: Signal) -> Mode
     }
 }
 
-// The report with that first word of node `me`, of what it has kept.
-fn say(word: u8, me: u8, kept: Kept) -> Report
-    ensures { λ r. ⌜ r ≡ says word me kept ⌝ }
+// The report with that first word of node `me`, of the label of the packet that it is sending and of what it has kept.
+fn say(word: u8, me: u8, label: u8, kept: Kept) -> Report
+    ensures { λ r. ⌜ r ≡ says word me label kept ⌝ }
 {
     let head = kept.head;
     match word {
-        words::ACK => Report::Acked(me, kept.ack),
-        words::MISS => Report::Miss(me),
+        words::ACK => Report::Acked(me, kept.ack, label),
+        words::MISS => Report::Miss(me, label),
         words::GOOD => Report::Good(me, head, kept.datum),
         words::DCRC => Report::Dcrc(me, head),
         words::BROAD => Report::Broad(me, head, kept.datum),
@@ -64,10 +64,11 @@ fn say(word: u8, me: u8, kept: Kept) -> Report
     }
 }
 
-// What node `me` in a mode does with a signal, by a table of the chart: it looks its cell up, and adds what modes remember.
+// What node `me` in a mode does with a signal, by a table of the chart: it looks its cell up, and adds what modes remember and the label of the
+// packet that it is sending.
 // With the chart's own table this is what the chart says (proofs/Reading.antt).
-pub fn receive(table: &[u16; 336], me: u8, mode: Mode, s: Signal) -> Heard
-    ensures { λ r. ⌜ r ≡ heardBy (now (table .entry)) me mode s ⌝ }
+pub fn receive(table: &[u16; 336], me: u8, label: u8, mode: Mode, s: Signal) -> Heard
+    ensures { λ r. ⌜ r ≡ heardBy (now (table .entry)) me label mode s ⌝ }
 {
     let place = modes::place_of(mode);
     let cell = table::cell_at(table, place, signals::class_of(me, s));
@@ -81,7 +82,7 @@ pub fn receive(table: &[u16; 336], me: u8, mode: Mode, s: Signal) -> Heard
     let kept = modes::remembered(mode);
     Heard {
         mode: enter(table::place_in(cell), mode, kept, s),
-        report: say(table::word_in(cell), me, kept),
+        report: say(table::word_in(cell), me, label, kept),
         pends: table::pends_in(cell),
     }
 }
@@ -105,7 +106,7 @@ fn send(i: u8, step: u8, p: Packet) -> Output
         4 => puts(Signal::Data(p.datum, true), Mode::Sending(5)),
         _ => {
             if p.to == 63 {
-                Output::Puts(Signal::End, Mode::Rest, Report::Sent(i))
+                Output::Puts(Signal::End, Mode::Rest, Report::Sent(i, head.label))
             } else {
                 puts(Signal::End, Mode::AwaitAck)
             }

@@ -174,7 +174,10 @@ fn good_datum(d: Datum) -> u32
 pub(crate) fn remembered(mode: Mode) -> Kept
     ensures { λ r. ⌜ r ≡ remembered mode ⌝ }
 {
-    let none = Head { header: 0 };
+    let none = Head {
+        header: 0,
+        label: 0,
+    };
     match mode {
         Mode::Rest => remembers(0, none, 0),
         Mode::AwaitAck => remembers(0, none, 0),

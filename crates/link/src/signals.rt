@@ -62,16 +62,20 @@ pub(crate) fn class_of(me: u8, s: Signal) -> u8
 pub(crate) fn head_of(s: Signal) -> Head
     ensures { λ r. ⌜ r ≡ headOf s ⌝ }
 {
+    let none = Head {
+        header: 0,
+        label: 0,
+    };
     match s {
-        Signal::Start => Head { header: 0 },
-        Signal::End => Head { header: 0 },
-        Signal::Prefix => Head { header: 0 },
-        Signal::Gap => Head { header: 0 },
-        Signal::Dhead => Head { header: 0 },
-        Signal::Dest(_) => Head { header: 0 },
+        Signal::Start => none,
+        Signal::End => none,
+        Signal::Prefix => none,
+        Signal::Gap => none,
+        Signal::Dhead => none,
+        Signal::Dest(_) => none,
         Signal::Header(h, _) => h,
-        Signal::Data(_, _) => Head { header: 0 },
-        Signal::Ack(_, _) => Head { header: 0 },
+        Signal::Data(_, _) => none,
+        Signal::Ack(_, _) => none,
     }
 }
 

@@ -1,4 +1,4 @@
--- "16 bytes each: kind, node, address, acknowledgement, hold, three zeros, header (4 bytes), data (4 bytes)"
+-- "16 bytes each: kind, node, address, acknowledgement, hold, three zeros, header (4 bytes), data (4 bytes)", and request 3: "Byte 5 of an action record becomes the label"
 use mathlib.Core.Bool.{cond}
 use mathlib.Core.List.{List, [], _∷_, _++_}
 use Prim.Native.Nat.{ℕ, zero, suc, _<_}
@@ -10,12 +10,12 @@ use Rattle.record.specs.Bytes.{little, value, bound}
 -- a record's 16 bytes
 unfoldable pub bytesOf : Action → List ℕ
 bytesOf a =
-    a .kind ∷ a .node ∷ a .address ∷ a .ack ∷ a .hold ∷ a .byte5 ∷ a .byte6 ∷ a .byte7
+    a .kind ∷ a .node ∷ a .address ∷ a .ack ∷ a .hold ∷ a .label ∷ a .byte6 ∷ a .byte7
     ∷ (little 4 (a .header) ++ little 4 (a .datum))
 
 -- the record of zeros
 abbrev pub blank : Action
-blank = record { kind = 0; node = 0; address = 0; ack = 0; hold = 0; byte5 = 0; byte6 = 0; byte7 = 0; header = 0; datum = 0 }
+blank = record { kind = 0; node = 0; address = 0; ack = 0; hold = 0; label = 0; byte6 = 0; byte7 = 0; header = 0; datum = 0 }
 
 -- the record that the first 16 bytes of a list are
 abbrev pub laidOut : List ℕ → Action
@@ -25,7 +25,7 @@ laidOut l = record {
   address = getD l 2 0;
   ack = getD l 3 0;
   hold = getD l 4 0;
-  byte5 = getD l 5 0;
+  label = getD l 5 0;
   byte6 = getD l 6 0;
   byte7 = getD l 7 0;
   header = value (getD l 8 0 ∷ getD l 9 0 ∷ getD l 10 0 ∷ getD l 11 0 ∷ []);
@@ -52,7 +52,7 @@ pub record Fits (a : Action) : Type 0 where
   pub address-fits : a .address < 256
   pub ack-fits : a .ack < 256
   pub hold-fits : a .hold < 256
-  pub byte5-fits : a .byte5 < 256
+  pub label-fits : a .label < 256
   pub byte6-fits : a .byte6 < 256
   pub byte7-fits : a .byte7 < 256
   pub header-fits : a .header < bound 4

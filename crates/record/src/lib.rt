@@ -1,11 +1,11 @@
-// An action record: its 16 bytes ("Run files"), and what the numbers 2 to 6 make of it.
+// An action record: its 16 bytes ("Run files"), and what the numbers 2 to 5, 13 and 6 make of it.
 ghost use mathlib.Core.Path.{_≡_};
 ghost use mathlib.Core.Bool.{true, cond, _&&_, _||_};
 ghost use mathlib.Core.List.{[], _∷_};
 ghost use Prim.Native.Nat.{_+_, _<_, _≤_};
 ghost use lib.ListN.{length};
 ghost use lib.Seq.{sets};
-ghost use Rattle.charts.specs.Records.{isKind, namesAddress, zeroUnless, clean, isAddress, moveOf, read};
+ghost use Rattle.charts.specs.Records.{isKind, namesAddress, zeroUnless, clean, isAddress, isLabel, moveOf, read};
 ghost use Rattle.record.specs.Bytes.{little, value, hasRoom, putAt};
 ghost use Rattle.record.specs.Layout.{bytesOf, actionAt};
 ghost use Rattle.record.specs.Looked.{numberOf};
@@ -25,6 +25,8 @@ const WRONG_NODE: u8 = 4;
 const WRONG_ADDRESS: u8 = 5;
 
 const WRONG_ANSWER: u8 = 6;
+
+const WRONG_LABEL: u8 = 13;
 
 fn both(p: bool, q: bool) -> bool
     ensures { λ r. ⌜ r ≡ (p && q) ⌝ }
@@ -64,7 +66,7 @@ fn zero_unless(named: bool, x: u32) -> bool
     either(named, x == 0)
 }
 
-// Whether the fields that the kind doesn't name, and the record's three zeros, are 0; else it is 3.
+// Whether the fields that the kind doesn't name, and the record's two zeros, are 0; else it is 3.
 fn is_clean(a: Action) -> bool
     ensures { λ r. ⌜ r ≡ clean a ⌝ }
 {
@@ -73,17 +75,27 @@ fn is_clean(a: Action) -> bool
     let address = zero_unless(names_address(kind), wide(a.address));
     let ack = zero_unless(kind == 3, wide(a.ack));
     let hold = zero_unless(kind == 3, wide(a.hold));
+    let label = zero_unless(kind == 1, wide(a.label));
     let header = zero_unless(kind == 1, a.header);
     let datum = zero_unless(kind == 1, a.datum);
-    let answer = both(ack, both(hold, both(header, datum)));
+    let packet = both(label, both(header, datum));
+    let answer = both(ack, both(hold, packet));
     let fields = both(node, both(address, answer));
-    both(a.byte5 == 0, both(a.byte6 == 0, both(a.byte7 == 0, fields)))
+    both(a.byte6 == 0, both(a.byte7 == 0, fields))
 }
 
-fn is_address(n: u8, address: u8) -> bool
+// An address "neither below n nor 63" is 5.
+pub fn is_address(n: u8, address: u8) -> bool
     ensures { λ r. ⌜ r ≡ isAddress n address ⌝ }
 {
     either(address < n, address == 63)
+}
+
+// "label over 63" is 13.
+pub fn is_label(label: u8) -> bool
+    ensures { λ r. ⌜ r ≡ isLabel label ⌝ }
+{
+    label < 64
 }
 
 fn move_of(a: Action) -> Move
@@ -95,7 +107,10 @@ fn move_of(a: Action) -> Move
             node: a.node,
             packet: Packet {
                 to: a.address,
-                head: Head { header: a.header },
+                head: Head {
+                    header: a.header,
+                    label: a.label,
+                },
                 datum: a.datum,
             },
         },
@@ -115,7 +130,7 @@ fn move_of(a: Action) -> Move
     }
 }
 
-// An action record looked at by 2 to 6, in that order.
+// An action record looked at by 2 to 5, 13 and 6, in that order.
 pub fn decode(n: u8, a: Action) -> Decoded
     ensures { λ r. ⌜ r ≡ read n a ⌝ }
 {
@@ -131,6 +146,9 @@ pub fn decode(n: u8, a: Action) -> Decoded
     }
     if both(names_address(kind), !is_address(n, a.address)) {
         return Decoded::Refused(WRONG_ADDRESS);
+    }
+    if !is_label(a.label) {
+        return Decoded::Refused(WRONG_LABEL);
     }
     if !both(a.ack < 16, a.hold < 2) {
         return Decoded::Refused(WRONG_ANSWER);
@@ -166,7 +184,7 @@ pub fn read_action(part: &[u8]) -> Action
             address: 0,
             ack: 0,
             hold: 0,
-            byte5: 0,
+            label: 0,
             byte6: 0,
             byte7: 0,
             header: 0,
@@ -179,7 +197,7 @@ pub fn read_action(part: &[u8]) -> Action
         address: part[2],
         ack: part[3],
         hold: part[4],
-        byte5: part[5],
+        label: part[5],
         byte6: part[6],
         byte7: part[7],
         header: number_of(part[8], part[9], part[10], part[11]),
@@ -225,7 +243,7 @@ fn store_action(out: &mut [u8], at: usize, a: Action)
     out[at + 2] = a.address;
     out[at + 3] = a.ack;
     out[at + 4] = a.hold;
-    out[at + 5] = a.byte5;
+    out[at + 5] = a.label;
     out[at + 6] = a.byte6;
     out[at + 7] = a.byte7;
     store_little(out, at + 8, 4, a.header);

@@ -20,6 +20,9 @@ got-requires c κs = search needs
 enum-known-arrival : tie.Need-enum-known-arrival
 enum-known-arrival c = search needs
 
+label-of-requires : tie.Need-label-of-requires
+label-of-requires c κs = search needs
+
 next-of-requires : tie.Need-next-of-requires
 next-of-requires c κs = search needs
 
@@ -39,7 +42,7 @@ returns-2 : tie.Need-returns-2
 returns-2 c = simp (← c .before .before .before .incoming .ensures, c .before .enum-told2 .given .1, c .got .ensures)
 
 returns-3 : tie.Need-returns-3
-returns-3 c = simp (← c .before .before .before .before .before .before .before .incoming .ensures, c .before .before .before .before .before .arrival .given .1, c .before .before .before .next-of .ensures, c .before .before .receive .ensures, c .before .hearing .ensures, c .got2 .ensures)
+returns-3 c = simp (← c .before .before .before .before .before .before .before .before .incoming .ensures, c .before .before .before .before .before .before .arrival .given .1, c .before .before .before .before .label-of .ensures, c .before .before .before .next-of .ensures, c .before .before .receive .ensures, c .before .hearing .ensures, c .got2 .ensures)
 
 pub hear-spec : {M : Type 1} → statement M
 hear-spec =
@@ -51,6 +54,7 @@ hear-spec =
     enum-told-2
     got-requires
     enum-known-arrival
+    label-of-requires
     next-of-requires
     receive-requires
     hearing-requires

@@ -6,8 +6,8 @@ use Rattle.bus.proofs.validity.node_fits.Tie as tie
 buffer-fits-requires : tie.Need-buffer-fits-requires
 buffer-fits-requires c κs = search needs
 
-is-address-requires : tie.Need-is-address-requires
-is-address-requires c κs = search needs
+packet-fits-requires : tie.Need-packet-fits-requires
+packet-fits-requires c κs = search needs
 
 both-requires : tie.Need-both-requires
 both-requires c κs = search needs
@@ -20,14 +20,14 @@ both-requires-2 c κs = search needs
 
 returns : tie.Need-returns
 unfolding cellFits
-returns c = λ w p h m. simp (c .before .before .before .before .buffer-fits .ensures, c .before .before .before .is-address .ensures, c .before .before .both .ensures, c .before .mode-fits .ensures, c .both2 .ensures)
+returns c = λ w p h m. simp (c .before .before .before .before .buffer-fits .ensures, c .before .before .before .packet-fits .ensures, c .before .before .both .ensures, c .before .mode-fits .ensures, c .both2 .ensures)
 
 pub node-fits-spec : {M : Type 1} → statement M
 node-fits-spec =
     tie.close
     (tie.spec
     buffer-fits-requires
-    is-address-requires
+    packet-fits-requires
     both-requires
     mode-fits-requires
     both-requires-2
