@@ -10,9 +10,9 @@ pub line-said : (w : List ℕ) (r : Report) → line (w ∷ said r) ≡ w ++ (32
 line-said w Silent = refl
 line-said w (Won i) = refl
 line-said w (Lost i) = refl
-line-said w (Sent i) = refl
-line-said w (Acked i a) = refl
-line-said w (Miss i) = refl
+line-said w (Sent i x) = refl
+line-said w (Acked i a x) = refl
+line-said w (Miss i x) = refl
 line-said w (Good i h d) = refl
 line-said w (Dcrc i h) = refl
 line-said w (Broad i h d) = refl

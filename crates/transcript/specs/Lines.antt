@@ -27,17 +27,17 @@ firstWord w =
     (cond (eqb w W.dcrc) (ascii "dcrc")
     (cond (eqb w W.broad) (ascii "broad") (ascii "-"))))))))
 
--- "`-` or node and report"
+-- "`-` or node and report". Request 3: "The reports sent, ack, miss, good, dcrc and broad end with" their label
 abbrev pub said : Report → List (List ℕ)
 said Silent = firstWord W.silent ∷ []
 said (Won i) = decimal i ∷ firstWord W.won ∷ []
 said (Lost i) = decimal i ∷ firstWord W.lost ∷ []
-said (Sent i) = decimal i ∷ firstWord W.sent ∷ []
-said (Acked i a) = decimal i ∷ firstWord W.acked ∷ decimal a ∷ []
-said (Miss i) = decimal i ∷ firstWord W.miss ∷ []
-said (Good i h d) = decimal i ∷ firstWord W.good ∷ decimal (h .header) ∷ decimal d ∷ []
-said (Dcrc i h) = decimal i ∷ firstWord W.dcrc ∷ decimal (h .header) ∷ []
-said (Broad i h d) = decimal i ∷ firstWord W.broad ∷ decimal (h .header) ∷ decimal d ∷ []
+said (Sent i x) = decimal i ∷ firstWord W.sent ∷ decimal x ∷ []
+said (Acked i a x) = decimal i ∷ firstWord W.acked ∷ decimal a ∷ decimal x ∷ []
+said (Miss i x) = decimal i ∷ firstWord W.miss ∷ decimal x ∷ []
+said (Good i h d) = decimal i ∷ firstWord W.good ∷ decimal (h .header) ∷ decimal d ∷ decimal (h .label) ∷ []
+said (Dcrc i h) = decimal i ∷ firstWord W.dcrc ∷ decimal (h .header) ∷ decimal (h .label) ∷ []
+said (Broad i h d) = decimal i ∷ firstWord W.broad ∷ decimal (h .header) ∷ decimal d ∷ decimal (h .label) ∷ []
 
 -- "The player's line: index, kind, then `-` or node and report"
 unfoldable pub lineOf : ℕ → ℕ → Report → List ℕ

@@ -20,9 +20,13 @@ holdWord hold = cond (eqb hold 0) [] (ascii "hold" ∷ [])
 abbrev pub changeWord : ℕ → List (List ℕ)
 changeWord address = cond (eqb address 0) [] (addressWord address ∷ [])
 
--- "`request 0 1 5 6` (node, address or `all`, header, data)"
+-- "the two last words optional (label 0)", and written "where the label is not 0"
+abbrev pub labelWords : ℕ → List (List ℕ)
+labelWords label = cond (eqb label 0) [] (ascii "label" ∷ decimal label ∷ [])
+
+-- "`request NODE ADDRESS HEADER DATA label LABEL`" (address or `all`)
 abbrev pub requestWords : Action → List (List ℕ)
-requestWords a = ascii "request" ∷ decimal (a .node) ∷ addressWord (a .address) ∷ decimal (a .header) ∷ decimal (a .datum) ∷ []
+requestWords a = ascii "request" ∷ decimal (a .node) ∷ addressWord (a .address) ∷ decimal (a .header) ∷ decimal (a .datum) ∷ labelWords (a .label)
 
 abbrev pub respondWords : Action → List (List ℕ)
 respondWords a = ascii "respond" ∷ decimal (a .node) ∷ decimal (a .ack) ∷ holdWord (a .hold)

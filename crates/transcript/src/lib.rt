@@ -130,7 +130,8 @@ pub fn put_span(out: &mut [u8], at: usize, line: u64, times: u32) -> usize
     }
     let a = text::put_u64(out, at, line);
     let b = text::put_byte(out, a, b' ');
-    text::put_last(out, b, times)
+    let c = text::put_u32(out, b, times);
+    text::put_byte(out, c, b'\n')
 }
 
 pub fn put_word(out: &mut [u8], at: usize, word: &[u8]) -> usize

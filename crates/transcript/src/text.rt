@@ -6,6 +6,7 @@ ghost use lib.ListN.{length};
 ghost use Rattle.transcript.specs.Text.{digit, decimal};
 ghost use Rattle.transcript.specs.Lines.{line, firstWord, said, flag};
 ghost use Rattle.transcript.specs.Room.{Puts};
+use charts::Head;
 use charts::Report;
 use charts::words;
 
@@ -99,60 +100,69 @@ fn put_node(buf: &mut [u8], at: usize, node: u8, word: &[u8]) -> usize
     put_word(buf, a, word)
 }
 
-// A header or a datum as the line's last word.
-pub(crate) fn put_last(buf: &mut [u8], at: usize, x: u32) -> usize
-    requires { ⌜ at + 11 ≤ length (now buf) ⌝ }
-    ensures { λ r. ⌜ r ≤ at + 11 ⌝ }
-    ensures { λ r. ⌜ Puts (now (buf .entry)) at (line (decimal x ∷ [])) r (now (buf .exit)) ⌝ }
+// The label that ends a report, after a space, and the end of the line.
+fn put_label(buf: &mut [u8], at: usize, label: u8) -> usize
+    requires { ⌜ at + 5 ≤ length (now buf) ⌝ }
+    ensures { λ r. ⌜ r ≤ at + 5 ⌝ }
+    ensures { λ r. ⌜ Puts (now (buf .entry)) at (32 ∷ line (decimal label ∷ [])) r (now (buf .exit)) ⌝ }
 {
-    let a = put_u32(buf, at, x);
-    put_byte(buf, a, b'\n')
+    let a = put_byte(buf, at, b' ');
+    let b = put_u8(buf, a, label);
+    put_byte(buf, b, b'\n')
 }
 
-// A header and a datum as the line's last words.
+// A header and a datum.
 pub(crate) fn put_fields(buf: &mut [u8], at: usize, header: u32, datum: u32) -> usize
-    requires { ⌜ at + 22 ≤ length (now buf) ⌝ }
-    ensures { λ r. ⌜ r ≤ at + 22 ⌝ }
-    ensures { λ r. ⌜ Puts (now (buf .entry)) at (line (decimal header ∷ decimal datum ∷ [])) r (now (buf .exit)) ⌝ }
+    requires { ⌜ at + 21 ≤ length (now buf) ⌝ }
+    ensures { λ r. ⌜ r ≤ at + 21 ⌝ }
+    ensures { λ r. ⌜ Puts (now (buf .entry)) at (decimal header ++ (32 ∷ decimal datum)) r (now (buf .exit)) ⌝ }
 {
     let a = put_u32(buf, at, header);
     let b = put_byte(buf, a, b' ');
-    put_last(buf, b, datum)
+    put_u32(buf, b, datum)
 }
 
 // "node and report" of a report with header and data.
-fn put_packet(buf: &mut [u8], at: usize, node: u8, word: &[u8], header: u32, datum: u32) -> usize
-    requires { ⌜ at + 25 + length (now word) ≤ length (now buf) ⌝ }
-    ensures { λ r. ⌜ r ≤ at + 25 + length (now (word .entry)) ⌝ }
-    ensures { λ r. ⌜ Puts (now (buf .entry)) at (decimal node ++ (now (word .entry) ++ line (decimal header ∷ decimal datum ∷ []))) r (now (buf .exit)) ⌝ }
+fn put_packet(buf: &mut [u8], at: usize, node: u8, word: &[u8], head: Head, datum: u32) -> usize
+    requires { ⌜ at + 29 + length (now word) ≤ length (now buf) ⌝ }
+    ensures { λ r. ⌜ r ≤ at + 29 + length (now (word .entry)) ⌝ }
+    ensures { λ r. ⌜ Puts (now (buf .entry)) at (decimal node ++ (now (word .entry) ++ line (decimal (head .header) ∷ decimal datum ∷ decimal (head .label) ∷ []))) r (now (buf .exit)) ⌝ }
 {
     let a = put_node(buf, at, node, word);
-    put_fields(buf, a, header, datum)
+    let b = put_fields(buf, a, head.header, datum);
+    put_label(buf, b, head.label)
 }
 
 // "`-` or node and report", and the end of the line.
 pub(crate) fn put_report(buf: &mut [u8], at: usize, report: Report) -> usize
-    requires { ⌜ at + 32 ≤ length (now buf) ⌝ }
-    ensures { λ r. ⌜ r ≤ at + 32 ⌝ }
+    requires { ⌜ at + 36 ≤ length (now buf) ⌝ }
+    ensures { λ r. ⌜ r ≤ at + 36 ⌝ }
     ensures { λ r. ⌜ Puts (now (buf .entry)) at (line (said report)) r (now (buf .exit)) ⌝ }
 {
     match report {
         Report::Silent => put_word(buf, at, b"-\n"),
         Report::Won(i) => put_node(buf, at, i, b" won\n"),
         Report::Lost(i) => put_node(buf, at, i, b" lost\n"),
-        Report::Sent(i) => put_node(buf, at, i, b" sent\n"),
-        Report::Acked(i, a) => {
+        Report::Sent(i, label) => {
+            let b = put_node(buf, at, i, b" sent");
+            put_label(buf, b, label)
+        }
+        Report::Acked(i, a, label) => {
             let b = put_node(buf, at, i, b" ack ");
             let c = put_u8(buf, b, a);
-            put_byte(buf, c, b'\n')
+            put_label(buf, c, label)
         }
-        Report::Miss(i) => put_node(buf, at, i, b" miss\n"),
-        Report::Good(i, h, d) => put_packet(buf, at, i, b" good ", h.header, d),
+        Report::Miss(i, label) => {
+            let b = put_node(buf, at, i, b" miss");
+            put_label(buf, b, label)
+        }
+        Report::Good(i, h, d) => put_packet(buf, at, i, b" good ", h, d),
         Report::Dcrc(i, h) => {
             let b = put_node(buf, at, i, b" dcrc ");
-            put_last(buf, b, h.header)
+            let c = put_u32(buf, b, h.header);
+            put_label(buf, c, h.label)
         }
-        Report::Broad(i, h, d) => put_packet(buf, at, i, b" broad ", h.header, d),
+        Report::Broad(i, h, d) => put_packet(buf, at, i, b" broad ", h, d),
     }
 }
 

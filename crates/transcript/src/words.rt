@@ -5,7 +5,7 @@ ghost use lib.ListN.{length};
 ghost use Rattle.transcript.specs.Text.{ascii, decimal};
 ghost use Rattle.transcript.specs.Lines.{line};
 ghost use Rattle.transcript.specs.Room.{Puts};
-ghost use Rattle.transcript.specs.Printed.{requestWords, respondWords, addressWord, holdWord, lineAfter, changeWord, actionLine};
+ghost use Rattle.transcript.specs.Printed.{requestWords, respondWords, addressWord, labelWords, holdWord, lineAfter, changeWord, actionLine};
 use crate::text;
 use charts::Action;
 
@@ -20,9 +20,23 @@ fn put_address(buf: &mut [u8], at: usize, address: u8) -> usize
     text::put_u8(buf, at, address)
 }
 
+// The label of a request, where it is not 0, and the end of the line.
+fn put_label(buf: &mut [u8], at: usize, label: u8) -> usize
+    requires { ⌜ at + 11 ≤ length (now buf) ⌝ }
+    ensures { λ r. ⌜ r ≤ at + 11 ⌝ }
+    ensures { λ r. ⌜ Puts (now (buf .entry)) at (lineAfter (labelWords label)) r (now (buf .exit)) ⌝ }
+{
+    if label == 0 {
+        return text::put_byte(buf, at, b'\n');
+    }
+    let b = text::put_word(buf, at, b" label ");
+    let c = text::put_u8(buf, b, label);
+    text::put_byte(buf, c, b'\n')
+}
+
 fn put_request(buf: &mut [u8], at: usize, a: Action) -> usize
-    requires { ⌜ at + 40 ≤ length (now buf) ⌝ }
-    ensures { λ r. ⌜ r ≤ at + 40 ⌝ }
+    requires { ⌜ at + 48 ≤ length (now buf) ⌝ }
+    ensures { λ r. ⌜ r ≤ at + 48 ⌝ }
     ensures { λ r. ⌜ Puts (now (buf .entry)) at (line (requestWords a)) r (now (buf .exit)) ⌝ }
 {
     let b = text::put_word(buf, at, b"request ");
@@ -30,7 +44,8 @@ fn put_request(buf: &mut [u8], at: usize, a: Action) -> usize
     let d = text::put_byte(buf, c, b' ');
     let e = put_address(buf, d, a.address);
     let f = text::put_byte(buf, e, b' ');
-    text::put_fields(buf, f, a.header, a.datum)
+    let g = text::put_fields(buf, f, a.header, a.datum);
+    put_label(buf, g, a.label)
 }
 
 // A line with a node alone: the word with a space after it, and the node.

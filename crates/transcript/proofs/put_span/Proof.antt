@@ -20,15 +20,18 @@ put-u64-requires c κs = let a = c .before .before .before .before .args in let 
 put-byte-requires : tie.Need-put-byte-requires
 put-byte-requires c κs = let a = c .before .before .before .before .before .before .before .before .args in let room = fits longest (a .at) (length (a .out .now)) (c .before .before .before .before .before .before .has-room .ensures) (c .before .before .before .before .before .if1 .left) in omega arith
 
-put-last-requires : tie.Need-put-last-requires
-put-last-requires c κs = let a = c .before .before .before .before .before .before .before .before .before .before .before .before .args in let room = fits longest (a .at) (length (a .out .now)) (c .before .before .before .before .before .before .before .before .before .before .has-room .ensures) (c .before .before .before .before .before .before .before .before .before .if1 .left) in omega arith
+put-u32-requires : tie.Need-put-u32-requires
+put-u32-requires c κs = let a = c .before .before .before .before .before .before .before .before .before .before .before .before .args in let room = fits longest (a .at) (length (a .out .now)) (c .before .before .before .before .before .before .before .before .before .before .has-room .ensures) (c .before .before .before .before .before .before .before .before .before .if1 .left) in omega arith
+
+put-byte-requires-2 : tie.Need-put-byte-requires-2
+put-byte-requires-2 c κs = let a = c .before .before .before .before .before .before .before .before .before .before .before .before .before .before .before .before .args in let room = fits longest (a .at) (length (a .out .now)) (c .before .before .before .before .before .before .before .before .before .before .before .before .before .before .has-room .ensures) (c .before .before .before .before .before .before .before .before .before .before .before .before .before .if1 .left) in omega arith
 
 same-length : tie.Need-same-length
 same-length c = search needs
 
 returns-2 : tie.Need-returns-2
 unfolding spanLine
-returns-2 c = let a = c .before .before .before .before .before .before .before .before .before .before .before .before .before .before .before .args in let room = fits longest (a .at) (length (a .out .now)) (c .before .before .before .before .before .before .before .before .before .before .before .before .before .has-room .ensures) (c .before .before .before .before .before .before .before .before .before .before .before .before .if1 .left) in (omega arith, put-in-room longest room (and-then (c .before .before .before .before .before .before .before .before .before .before .put-u64 .ensures .1) (and-then (c .before .before .before .before .before .before .put-byte .ensures) (c .before .before .put-last .ensures .1))))
+returns-2 c = let a = c .before .before .before .before .before .before .before .before .before .before .before .before .before .before .before .before .before .before .before .args in let room = fits longest (a .at) (length (a .out .now)) (c .before .before .before .before .before .before .before .before .before .before .before .before .before .before .before .before .before .has-room .ensures) (c .before .before .before .before .before .before .before .before .before .before .before .before .before .before .before .before .if1 .left) in (omega arith, put-in-room longest room (and-then (c .before .before .before .before .before .before .before .before .before .before .before .before .before .before .put-u64 .ensures .1) (and-then (c .before .before .before .before .before .before .before .before .before .before .put-byte .ensures) (and-then (c .before .before .before .before .before .before .put-u32 .ensures .1) (c .before .before .put-byte2 .ensures)))))
 
 pub put-span-spec : {M : Type 1} → statement M
 put-span-spec =
@@ -38,6 +41,7 @@ put-span-spec =
     returns
     put-u64-requires
     put-byte-requires
-    put-last-requires
+    put-u32-requires
+    put-byte-requires-2
     same-length
     returns-2)

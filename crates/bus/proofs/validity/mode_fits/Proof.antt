@@ -2,226 +2,171 @@ use Rattle.charts.specs.Valid.{modeFits}
 use borrow.Author.Needs.{needs}
 use Rattle.bus.proofs.validity.mode_fits.Statement.{statement}
 use Rattle.bus.proofs.validity.mode_fits.Tie as tie
-use Rattle.bus.proofs.validity.mode_fits.Reads as reads
-use Rattle.bus.proofs.validity.mode_fits.Lts as lts
-use Rattle.bus.proofs.bools.both.Reads as both-reads
-use Rattle.bus.proofs.validity.is_ack.Reads as is-ack-reads
-use Rattle.bus.proofs.validity.seen_fits.Reads as seen-fits-reads
-use Rattle.record.proofs.is_label.Reads as is-label-reads
 
--- src/validity.rt:47:23
 enum-told : tie.Need-enum-told
 enum-told c = search needs
 
--- src/validity.rt:48:27
 enum-told-2 : tie.Need-enum-told-2
 enum-told-2 c = search needs
 
--- src/validity.rt:49:26
 enum-told-3 : tie.Need-enum-told-3
 enum-told-3 c = search needs
 
--- src/validity.rt:50:22
 enum-known-mode : tie.Need-enum-known-mode
 enum-known-mode c = search needs
 
--- src/validity.rt:50:31
 seen-fits-requires : tie.Need-seen-fits-requires
 seen-fits-requires c κs = search needs
 
--- src/validity.rt:51:25
 enum-told-4 : tie.Need-enum-told-4
 enum-told-4 c = search needs
 
--- src/validity.rt:52:28
 enum-told-5 : tie.Need-enum-told-5
 enum-told-5 c = search needs
 
--- src/validity.rt:53:26
 enum-told-6 : tie.Need-enum-told-6
 enum-told-6 c = search needs
 
--- src/validity.rt:54:26
 enum-told-7 : tie.Need-enum-told-7
 enum-told-7 c = search needs
 
--- src/validity.rt:55:23
 enum-known-mode-2 : tie.Need-enum-known-mode-2
 enum-known-mode-2 c = search needs
 
--- src/validity.rt:55:29
 is-label-requires : tie.Need-is-label-requires
 is-label-requires c κs = search needs
 
--- src/validity.rt:56:23
 enum-known-mode-3 : tie.Need-enum-known-mode-3
 enum-known-mode-3 c = search needs
 
--- src/validity.rt:56:29
 is-label-requires-2 : tie.Need-is-label-requires-2
 is-label-requires-2 c κs = search needs
 
--- src/validity.rt:57:23
 enum-known-mode-4 : tie.Need-enum-known-mode-4
 enum-known-mode-4 c = search needs
 
--- src/validity.rt:57:32
 is-label-requires-3 : tie.Need-is-label-requires-3
 is-label-requires-3 c κs = search needs
 
--- src/validity.rt:58:23
 enum-known-mode-5 : tie.Need-enum-known-mode-5
 enum-known-mode-5 c = search needs
 
--- src/validity.rt:58:32
 is-label-requires-4 : tie.Need-is-label-requires-4
 is-label-requires-4 c κs = search needs
 
--- src/validity.rt:59:23
 enum-told-8 : tie.Need-enum-told-8
 enum-told-8 c = search needs
 
--- src/validity.rt:60:23
 enum-told-9 : tie.Need-enum-told-9
 enum-told-9 c = search needs
 
--- src/validity.rt:61:23
 enum-known-mode-6 : tie.Need-enum-known-mode-6
 enum-known-mode-6 c = search needs
 
--- src/validity.rt:62:23
 enum-told-10 : tie.Need-enum-told-10
 enum-told-10 c = search needs
 
--- src/validity.rt:63:28
 enum-told-11 : tie.Need-enum-told-11
 enum-told-11 c = search needs
 
--- src/validity.rt:64:24
 enum-known-mode-7 : tie.Need-enum-known-mode-7
 enum-known-mode-7 c = search needs
 
--- src/validity.rt:64:70
 is-ack-requires : tie.Need-is-ack-requires
 is-ack-requires c κs = search needs
 
--- src/validity.rt:64:48
 both-requires : tie.Need-both-requires
 both-requires c κs = search needs
 
--- src/validity.rt:65:26
 enum-told-12 : tie.Need-enum-told-12
 enum-told-12 c = search needs
 
--- src/validity.rt:66:27
 enum-told-13 : tie.Need-enum-told-13
 enum-told-13 c = search needs
 
--- src/validity.rt:67:28
 enum-told-14 : tie.Need-enum-told-14
 enum-told-14 c = search needs
 
--- src/validity.rt:43:1
 returns : tie.Need-returns
 unfolding modeFits
 returns c = simp (c .enum-told .given .1)
 
--- src/validity.rt:43:1
 returns-2 : tie.Need-returns-2
 unfolding modeFits
 returns-2 c = simp (c .enum-told2 .given .1)
 
--- src/validity.rt:43:1
 returns-3 : tie.Need-returns-3
 unfolding modeFits
 returns-3 c = simp (c .enum-told3 .given .1)
 
--- src/validity.rt:43:1
 returns-4 : tie.Need-returns-4
 unfolding modeFits
 returns-4 c = simp (c .before .before .mode .given .1, c .seen-fits .ensures)
 
--- src/validity.rt:43:1
 returns-5 : tie.Need-returns-5
 unfolding modeFits
 returns-5 c = simp (c .enum-told4 .given .1)
 
--- src/validity.rt:43:1
 returns-6 : tie.Need-returns-6
 unfolding modeFits
 returns-6 c = simp (c .enum-told5 .given .1)
 
--- src/validity.rt:43:1
 returns-7 : tie.Need-returns-7
 unfolding modeFits
 returns-7 c = simp (c .enum-told6 .given .1)
 
--- src/validity.rt:43:1
 returns-8 : tie.Need-returns-8
 unfolding modeFits
 returns-8 c = simp (c .enum-told7 .given .1)
 
--- src/validity.rt:43:1
 returns-9 : tie.Need-returns-9
 unfolding modeFits
 returns-9 c = simp (c .before .before .mode2 .given .1, c .is-label .ensures)
 
--- src/validity.rt:43:1
 returns-10 : tie.Need-returns-10
 unfolding modeFits
 returns-10 c = simp (c .before .before .mode3 .given .1, c .is-label2 .ensures)
 
--- src/validity.rt:43:1
 returns-11 : tie.Need-returns-11
 unfolding modeFits
 returns-11 c = simp (c .before .before .mode4 .given .1, c .is-label3 .ensures)
 
--- src/validity.rt:43:1
 returns-12 : tie.Need-returns-12
 unfolding modeFits
 returns-12 c = simp (c .before .before .mode5 .given .1, c .is-label4 .ensures)
 
--- src/validity.rt:43:1
 returns-13 : tie.Need-returns-13
 unfolding modeFits
 returns-13 c = simp (c .enum-told8 .given .1)
 
--- src/validity.rt:43:1
 returns-14 : tie.Need-returns-14
 unfolding modeFits
 returns-14 c = simp (c .enum-told9 .given .1)
 
--- src/validity.rt:43:1
 returns-15 : tie.Need-returns-15
 unfolding modeFits
 returns-15 c = simp (c .before .mode6 .given .1)
 
--- src/validity.rt:43:1
 returns-16 : tie.Need-returns-16
 unfolding modeFits
 returns-16 c = simp (c .enum-told10 .given .1)
 
--- src/validity.rt:43:1
 returns-17 : tie.Need-returns-17
 unfolding modeFits
 returns-17 c = simp (c .enum-told11 .given .1)
 
--- src/validity.rt:43:1
 returns-18 : tie.Need-returns-18
 unfolding modeFits
 returns-18 c = simp (c .before .before .before .mode7 .given .1, c .before .is-ack .ensures, c .both .ensures)
 
--- src/validity.rt:43:1
 returns-19 : tie.Need-returns-19
 unfolding modeFits
 returns-19 c = simp (c .enum-told12 .given .1)
 
--- src/validity.rt:43:1
 returns-20 : tie.Need-returns-20
 unfolding modeFits
 returns-20 c = simp (c .enum-told13 .given .1)
 
--- src/validity.rt:43:1
 returns-21 : tie.Need-returns-21
 unfolding modeFits
 returns-21 c = simp (c .enum-told14 .given .1)

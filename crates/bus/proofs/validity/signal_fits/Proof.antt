@@ -1,93 +1,67 @@
 use borrow.Author.Needs.{needs}
 use Rattle.bus.proofs.validity.signal_fits.Statement.{statement}
 use Rattle.bus.proofs.validity.signal_fits.Tie as tie
-use Rattle.bus.proofs.validity.signal_fits.Reads as reads
-use Rattle.bus.proofs.validity.signal_fits.Lts as lts
-use Rattle.bus.proofs.validity.is_ack.Reads as is-ack-reads
-use Rattle.record.proofs.is_address.Reads as is-address-reads
-use Rattle.record.proofs.is_label.Reads as is-label-reads
 
--- src/validity.rt:102:26
 enum-told : tie.Need-enum-told
 enum-told c = search needs
 
--- src/validity.rt:103:24
 enum-told-2 : tie.Need-enum-told-2
 enum-told-2 c = search needs
 
--- src/validity.rt:104:27
 enum-told-3 : tie.Need-enum-told-3
 enum-told-3 c = search needs
 
--- src/validity.rt:105:24
 enum-told-4 : tie.Need-enum-told-4
 enum-told-4 c = search needs
 
--- src/validity.rt:106:26
 enum-told-5 : tie.Need-enum-told-5
 enum-told-5 c = search needs
 
--- src/validity.rt:107:22
 enum-known-s : tie.Need-enum-known-s
 enum-known-s c = search needs
 
--- src/validity.rt:107:28
 is-address-requires : tie.Need-is-address-requires
 is-address-requires c κs = search needs
 
--- src/validity.rt:108:24
 enum-known-s-2 : tie.Need-enum-known-s-2
 enum-known-s-2 c = search needs
 
--- src/validity.rt:108:33
 is-label-requires : tie.Need-is-label-requires
 is-label-requires c κs = search needs
 
--- src/validity.rt:109:31
 enum-told-6 : tie.Need-enum-told-6
 enum-told-6 c = search needs
 
--- src/validity.rt:110:21
 enum-known-s-3 : tie.Need-enum-known-s-3
 enum-known-s-3 c = search needs
 
--- src/validity.rt:110:30
 is-ack-requires : tie.Need-is-ack-requires
 is-ack-requires c κs = search needs
 
--- src/validity.rt:98:1
 returns : tie.Need-returns
 returns c = simp (c .enum-told .given .1)
 
--- src/validity.rt:98:1
 returns-2 : tie.Need-returns-2
 returns-2 c = simp (c .enum-told2 .given .1)
 
--- src/validity.rt:98:1
 returns-3 : tie.Need-returns-3
 returns-3 c = simp (c .enum-told3 .given .1)
 
--- src/validity.rt:98:1
 returns-4 : tie.Need-returns-4
 returns-4 c = simp (c .enum-told4 .given .1)
 
--- src/validity.rt:98:1
 returns-5 : tie.Need-returns-5
 returns-5 c = simp (c .enum-told5 .given .1)
 
--- src/validity.rt:98:1
 returns-6 : tie.Need-returns-6
 returns-6 c = simp (c .before .before .s .given .1, c .is-address .ensures)
 
--- src/validity.rt:98:1
 returns-7 : tie.Need-returns-7
 returns-7 c = simp (c .before .before .s2 .given .1, c .is-label .ensures)
 
--- src/validity.rt:98:1
 returns-8 : tie.Need-returns-8
 returns-8 c = simp (c .enum-told6 .given .1)
 
--- src/validity.rt:98:1
 returns-9 : tie.Need-returns-9
 returns-9 c = simp (c .before .before .s3 .given .1, c .is-ack .ensures)
 

@@ -1,6 +1,6 @@
-use Rattle.transcript.proofs.Puts.{and-then}
-use native.Mathlib.Omega.{arith}
 use mathlib.Core.List.{append-assoc}
+use native.Mathlib.Omega.{arith}
+use Rattle.transcript.proofs.Puts.{and-then}
 use borrow.Author.Needs.{needs}
 use Rattle.transcript.proofs.text.put_report.Statement.{statement}
 use Rattle.transcript.proofs.text.put_report.Tie as tie
@@ -41,6 +41,9 @@ slice-aggregate-put-node-3 c = search needs
 put-node-requires-3 : tie.Need-put-node-requires-3
 put-node-requires-3 c κs = search needs
 
+put-label-requires : tie.Need-put-label-requires
+put-label-requires c κs = search needs
+
 enum-known-report-4 : tie.Need-enum-known-report-4
 enum-known-report-4 c = search needs
 
@@ -53,8 +56,8 @@ put-node-requires-4 c κs = search needs
 put-u8-requires : tie.Need-put-u8-requires
 put-u8-requires c κs = search needs
 
-put-byte-requires : tie.Need-put-byte-requires
-put-byte-requires c κs = search needs
+put-label-requires-2 : tie.Need-put-label-requires-2
+put-label-requires-2 c κs = search needs
 
 enum-known-report-5 : tie.Need-enum-known-report-5
 enum-known-report-5 c = search needs
@@ -64,6 +67,9 @@ slice-aggregate-put-node-5 c = search needs
 
 put-node-requires-5 : tie.Need-put-node-requires-5
 put-node-requires-5 c κs = search needs
+
+put-label-requires-3 : tie.Need-put-label-requires-3
+put-label-requires-3 c κs = search needs
 
 enum-known-report-6 : tie.Need-enum-known-report-6
 enum-known-report-6 c = search needs
@@ -83,8 +89,11 @@ slice-aggregate-put-node-6 c = search needs
 put-node-requires-6 : tie.Need-put-node-requires-6
 put-node-requires-6 c κs = search needs
 
-put-last-requires : tie.Need-put-last-requires
-put-last-requires c κs = search needs
+put-u32-requires : tie.Need-put-u32-requires
+put-u32-requires c κs = search needs
+
+put-label-requires-4 : tie.Need-put-label-requires-4
+put-label-requires-4 c κs = search needs
 
 enum-known-report-8 : tie.Need-enum-known-report-8
 enum-known-report-8 c = search needs
@@ -117,19 +126,19 @@ same-length-4 : tie.Need-same-length-4
 same-length-4 c = search needs
 
 returns-4 : tie.Need-returns-4
-returns-4 c = (omega arith, rw (c .before .before .before .before .before .before .report3 .given .1) (c .before .before .put-node3 .ensures .1))
+returns-4 c = (omega arith, rw (c .before .before .before .before .before .before .before .before .before .before .report3 .given .1) (rw append-assoc at (and-then (c .before .before .before .before .before .before .put-node3 .ensures .1) (c .before .before .put-label .ensures .1))))
 
 same-length-5 : tie.Need-same-length-5
 same-length-5 c = search needs
 
 returns-5 : tie.Need-returns-5
-returns-5 c = (omega arith, rw (c .before .before .before .before .before .before .before .before .before .before .before .before .before .before .report4 .given .1) (rw append-assoc at (and-then (c .before .before .before .before .before .before .before .before .before .before .put-node4 .ensures .1) (and-then (c .before .before .before .before .before .before .put-u8 .ensures .1) (c .before .before .put-byte .ensures)))))
+returns-5 c = (omega arith, rw (c .before .before .before .before .before .before .before .before .before .before .before .before .before .before .report4 .given .1) (rw append-assoc at (and-then (c .before .before .before .before .before .before .before .before .before .before .put-node4 .ensures .1) (and-then (c .before .before .before .before .before .before .put-u8 .ensures .1) (c .before .before .put-label2 .ensures .1)))))
 
 same-length-6 : tie.Need-same-length-6
 same-length-6 c = search needs
 
 returns-6 : tie.Need-returns-6
-returns-6 c = (omega arith, rw (c .before .before .before .before .before .before .report5 .given .1) (c .before .before .put-node5 .ensures .1))
+returns-6 c = (omega arith, rw (c .before .before .before .before .before .before .before .before .before .before .report5 .given .1) (rw append-assoc at (and-then (c .before .before .before .before .before .before .put-node5 .ensures .1) (c .before .before .put-label3 .ensures .1))))
 
 same-length-7 : tie.Need-same-length-7
 same-length-7 c = search needs
@@ -141,7 +150,7 @@ same-length-8 : tie.Need-same-length-8
 same-length-8 c = search needs
 
 returns-8 : tie.Need-returns-8
-returns-8 c = (omega arith, rw (c .before .before .before .before .before .before .before .before .before .before .report7 .given .1) (rw append-assoc at (and-then (c .before .before .before .before .before .before .put-node6 .ensures .1) (c .before .before .put-last .ensures .1))))
+returns-8 c = (omega arith, rw (c .before .before .before .before .before .before .before .before .before .before .before .before .before .before .report7 .given .1) (rw append-assoc at (and-then (c .before .before .before .before .before .before .before .before .before .before .put-node6 .ensures .1) (and-then (c .before .before .before .before .before .before .put-u32 .ensures .1) (c .before .before .put-label4 .ensures .1)))))
 
 same-length-9 : tie.Need-same-length-9
 same-length-9 c = search needs
@@ -165,21 +174,24 @@ put-report-spec =
     enum-known-report-3
     slice-aggregate-put-node-3
     put-node-requires-3
+    put-label-requires
     enum-known-report-4
     slice-aggregate-put-node-4
     put-node-requires-4
     put-u8-requires
-    put-byte-requires
+    put-label-requires-2
     enum-known-report-5
     slice-aggregate-put-node-5
     put-node-requires-5
+    put-label-requires-3
     enum-known-report-6
     slice-aggregate-put-packet
     put-packet-requires
     enum-known-report-7
     slice-aggregate-put-node-6
     put-node-requires-6
-    put-last-requires
+    put-u32-requires
+    put-label-requires-4
     enum-known-report-8
     slice-aggregate-put-packet-2
     put-packet-requires-2
