@@ -72,14 +72,15 @@ hint w =
 abbrev pub quoted : List ℕ → List ℕ
 quoted w = ascii "\"" ++ (shown w ++ (ascii "\"" ++ hint w))
 
--- the field of an action that has one alone; after it stands the count
+-- the field of an action that has one alone
 abbrev pub ofFirst : ℕ → ℕ → ℕ
 ofFirst place field = cond (eqb place 1) field 0
 
--- which field stands at a place of an action's line (0 is its first word), by its number: 0 is the count, 1 and 2 are header and data, the others take a byte
+-- which field stands at a place of an action's line (1 is the place after its first word; 0 is what follows a `*`), by its number: 0 is the count, 1 and 2 are header and data,
+-- the others take a byte
 unfoldable pub fieldOf : ℕ → ℕ → ℕ
 fieldOf kind place =
-    cond (eqb kind 1) (cond (eqb place 1) 3 (cond (eqb place 2) 4 (cond (eqb place 3) 1 (cond (eqb place 4) 2 0))))
+    cond (eqb kind 1) (cond (eqb place 1) 3 (cond (eqb place 2) 4 (cond (eqb place 3) 1 (cond (eqb place 4) 2 (cond (eqb place 6) 11 0)))))
     (cond (eqb kind 2) (ofFirst place 5)
     (cond (eqb kind 3) (cond (eqb place 1) 6 (cond (eqb place 2) 7 0))
     (cond (eqb kind 4) (ofFirst place 8)
@@ -100,7 +101,8 @@ fieldWords field =
     (cond (eqb field 8) (ascii "the node of clock")
     (cond (eqb field 9) (ascii "the address of change")
     (cond (eqb field 10) (ascii "the number of nodes")
-    (ascii "the count after *"))))))))))
+    (cond (eqb field 11) (ascii "the label of request")
+    (ascii "the count after *")))))))))))
 
 -- "`, at most ` 255 or 4294967295"
 abbrev pub mostWords : ℕ → List ℕ
@@ -110,7 +112,7 @@ mostWords field = cond (ltb field 3) (ascii ", at most 4294967295") (ascii ", at
 abbrev pub wordOf : List ℕ → ℕ → List ℕ
 wordOf w field = ascii ": " ++ (quoted w ++ (ascii ", " ++ fieldWords field))
 
--- "STATEMENT `: no node ` the node", and so for an address and an acknowledgement
+-- "STATEMENT `: no node ` the node", and so for an address, a label and an acknowledgement
 abbrev pub noneOf : List ℕ → List ℕ → ℕ → List ℕ
 noneOf w what x = ascii ": " ++ (shown w ++ (what ++ decimal x))
 
@@ -124,6 +126,7 @@ causeWords (C.Missing kind place) w = ascii ": " ++ fieldWords (fieldOf kind pla
 causeWords C.Size w = ascii ": " ++ (shown w ++ ascii ": a bus has 2 to 63 nodes")
 causeWords (C.Node node n) w = noneOf w (ascii ": no node ") node ++ (ascii ", nodes are 0 to " ++ decimal (n - 1))
 causeWords (C.Address address n) w = noneOf w (ascii ": no address ") address ++ (ascii ", addresses are 0 to " ++ (decimal (n - 1) ++ ascii " and all"))
+causeWords (C.Label label) w = noneOf w (ascii ": no label ") label ++ ascii ", labels are 0 to 63"
 causeWords (C.Ack ack) w = noneOf w (ascii ": no acknowledgement ") ack ++ ascii ", they are 0 to 15"
 
 -- "`line K: `, what is wrong […] and, where more can be said, a colon, a space and the cause"

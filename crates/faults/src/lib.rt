@@ -29,7 +29,7 @@ pub enum Cause {
     Plain,
     // The word is the cause.
     Quoted,
-    // The word and its field: the action's kind (11 is `nodes`) and the word's place in the line (0 is the first).
+    // The word and its field: the action's kind (11 is `nodes`) and the word's place in the line (the first word has 0, and so has what follows a `*`).
     Field(u8, u8),
     // The same, with the largest number that the field takes.
     Large(u8, u8),
@@ -41,6 +41,8 @@ pub enum Cause {
     Node(u8, u8),
     // No such address among n.
     Address(u8, u8),
+    // No such label.
+    Label(u8),
     // No such acknowledgement.
     Ack(u8),
 }

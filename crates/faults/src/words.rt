@@ -191,6 +191,7 @@ fn field_of(kind: u8, place: u8) -> u8
             2 => 4,
             3 => 1,
             4 => 2,
+            6 => 11,
             _ => 0,
         },
         2 => of_first(place, 5),
@@ -222,6 +223,7 @@ fn put_field(buf: &mut [u8], at: usize, field: u8) -> usize
         8 => write::put_word(buf, at, b"the node of clock"),
         9 => write::put_word(buf, at, b"the address of change"),
         10 => write::put_word(buf, at, b"the number of nodes"),
+        11 => write::put_word(buf, at, b"the label of request"),
         _ => write::put_word(buf, at, b"the count after *"),
     }
 }
@@ -304,6 +306,10 @@ fn put_cause(buf: &mut [u8], at: usize, cause: Cause, w: &[u8]) -> usize
             let c = write::put_word(buf, b, b", addresses are 0 to ");
             let d = write::put_u8(buf, c, last_of(n));
             write::put_word(buf, d, b" and all")
+        }
+        Cause::Label(label) => {
+            let b = put_none(buf, at, w, b": no label ", label);
+            write::put_word(buf, b, b", labels are 0 to 63")
         }
         Cause::Ack(ack) => {
             let b = put_none(buf, at, w, b": no acknowledgement ", ack);

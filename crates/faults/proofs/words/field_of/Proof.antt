@@ -34,39 +34,43 @@ returns-4 c = simp (c .before .match .keys1, c .match2 .keys4)
 
 returns-5 : tie.Need-returns-5
 unfolding fieldOf
-returns-5 c = simp (c .before .match .keys1, ne-eqb _ _ (c .match2 .rest .0 .0 .0 .1), ne-eqb _ _ (c .match2 .rest .0 .0 .1), ne-eqb _ _ (c .match2 .rest .0 .1), ne-eqb _ _ (c .match2 .rest .1))
+returns-5 c = simp (c .before .match .keys1, c .match2 .keys5)
 
 returns-6 : tie.Need-returns-6
 unfolding fieldOf
-returns-6 c = simp (c .before .match .keys2, c .of-first .ensures)
+returns-6 c = simp (c .before .match .keys1, ne-eqb _ _ (c .match2 .rest .0 .0 .0 .0 .1), ne-eqb _ _ (c .match2 .rest .0 .0 .0 .1), ne-eqb _ _ (c .match2 .rest .0 .0 .1), ne-eqb _ _ (c .match2 .rest .0 .1), ne-eqb _ _ (c .match2 .rest .1))
 
 returns-7 : tie.Need-returns-7
 unfolding fieldOf
-returns-7 c = simp (c .before .match .keys3, c .match3 .keys1)
+returns-7 c = simp (c .before .match .keys2, c .of-first .ensures)
 
 returns-8 : tie.Need-returns-8
 unfolding fieldOf
-returns-8 c = simp (c .before .match .keys3, c .match3 .keys2)
+returns-8 c = simp (c .before .match .keys3, c .match3 .keys1)
 
 returns-9 : tie.Need-returns-9
 unfolding fieldOf
-returns-9 c = simp (c .before .match .keys3, ne-eqb _ _ (c .match3 .rest .0 .1), ne-eqb _ _ (c .match3 .rest .1))
+returns-9 c = simp (c .before .match .keys3, c .match3 .keys2)
 
 returns-10 : tie.Need-returns-10
 unfolding fieldOf
-returns-10 c = simp (c .before .match .keys4, c .of-first2 .ensures)
+returns-10 c = simp (c .before .match .keys3, ne-eqb _ _ (c .match3 .rest .0 .1), ne-eqb _ _ (c .match3 .rest .1))
 
 returns-11 : tie.Need-returns-11
 unfolding fieldOf
-returns-11 c = simp (c .before .match .keys5, c .of-first3 .ensures)
+returns-11 c = simp (c .before .match .keys4, c .of-first2 .ensures)
 
 returns-12 : tie.Need-returns-12
 unfolding fieldOf
-returns-12 c = simp (c .before .match .keys6, c .of-first4 .ensures)
+returns-12 c = simp (c .before .match .keys5, c .of-first3 .ensures)
 
 returns-13 : tie.Need-returns-13
 unfolding fieldOf
-returns-13 c = simp (ne-eqb _ _ (c .match .rest .0 .0 .0 .0 .0 .1), ne-eqb _ _ (c .match .rest .0 .0 .0 .0 .1), ne-eqb _ _ (c .match .rest .0 .0 .0 .1), ne-eqb _ _ (c .match .rest .0 .0 .1), ne-eqb _ _ (c .match .rest .0 .1), ne-eqb _ _ (c .match .rest .1))
+returns-13 c = simp (c .before .match .keys6, c .of-first4 .ensures)
+
+returns-14 : tie.Need-returns-14
+unfolding fieldOf
+returns-14 c = simp (ne-eqb _ _ (c .match .rest .0 .0 .0 .0 .0 .1), ne-eqb _ _ (c .match .rest .0 .0 .0 .0 .1), ne-eqb _ _ (c .match .rest .0 .0 .0 .1), ne-eqb _ _ (c .match .rest .0 .0 .1), ne-eqb _ _ (c .match .rest .0 .1), ne-eqb _ _ (c .match .rest .1))
 
 pub field-of-spec : {M : Type 1} → statement M
 field-of-spec =
@@ -88,4 +92,5 @@ field-of-spec =
     returns-10
     returns-11
     returns-12
-    returns-13)
+    returns-13
+    returns-14)

@@ -137,6 +137,21 @@ slice-aggregate-put-word-8 c = search needs
 put-word-requires-8 : tie.Need-put-word-requires-8
 put-word-requires-8 c κs = search needs
 
+enum-known-cause-7 : tie.Need-enum-known-cause-7
+enum-known-cause-7 c = search needs
+
+slice-aggregate-put-none-4 : tie.Need-slice-aggregate-put-none-4
+slice-aggregate-put-none-4 c = search needs
+
+put-none-requires-4 : tie.Need-put-none-requires-4
+put-none-requires-4 c κs = search needs
+
+slice-aggregate-put-word-9 : tie.Need-slice-aggregate-put-word-9
+slice-aggregate-put-word-9 c = search needs
+
+put-word-requires-9 : tie.Need-put-word-requires-9
+put-word-requires-9 c κs = search needs
+
 returns : tie.Need-returns
 unfolding causeWords
 returns c = (omega arith, rw (c .enum-told .given .1) (puts-none _ _))
@@ -197,6 +212,13 @@ returns-9 : tie.Need-returns-9
 unfolding causeWords
 returns-9 c = (omega arith, rw (c .before .before .before .before .before .before .before .before .before .before .before .cause6 .given .1) (and-then (c .before .before .before .before .before .before .before .put-none3 .ensures .1) ((c .before .before .put-word8 .ensures))))
 
+same-length-9 : tie.Need-same-length-9
+same-length-9 c = search needs
+
+returns-10 : tie.Need-returns-10
+unfolding causeWords
+returns-10 c = (omega arith, rw (c .before .before .before .before .before .before .before .before .before .before .before .cause7 .given .1) (and-then (c .before .before .before .before .before .before .before .put-none4 .ensures .1) ((c .before .before .put-word9 .ensures))))
+
 pub put-cause-spec : {M : Type 1} → statement M
 put-cause-spec =
     tie.close
@@ -245,6 +267,11 @@ put-cause-spec =
     put-none-requires-3
     slice-aggregate-put-word-8
     put-word-requires-8
+    enum-known-cause-7
+    slice-aggregate-put-none-4
+    put-none-requires-4
+    slice-aggregate-put-word-9
+    put-word-requires-9
     returns
     same-length
     returns-2
@@ -261,4 +288,6 @@ put-cause-spec =
     same-length-7
     returns-8
     same-length-8
-    returns-9)
+    returns-9
+    same-length-9
+    returns-10)
