@@ -12,26 +12,27 @@ use Rattle.charts.specs.Signals.{everybody}
 use Rattle.charts.specs.declared.Action.{Action}
 use Rattle.charts.specs.declared.Move.{Move}
 use Rattle.charts.specs.declared.Decoded.the-variants as D
-use Rattle.charts.specs.Records.{isKind, namesNode, namesAddress, namesAnswer, namesPacket, zeroUnless, clean, isAddress, moveOf, read}
+use Rattle.charts.specs.Records.{isKind, namesNode, namesAddress, namesAnswer, namesPacket, zeroUnless, clean, isAddress, isLabel, moveOf, read}
 use Rattle.record.specs.Layout.{Fits}
 use Rattle.runfile.proofs.Loops.{and-left, and-right}
 use Rattle.transcript.specs.Text.{ascii, decimal}
 use Rattle.transcript.proofs.Decimals.{decimal-short}
+use Rattle.notation.specs.declared.words.Token.{Token}
 use Rattle.notation.specs.declared.words.Token.the-variants.{Word, Number}
 use Rattle.notation.specs.declared.Line.the-variants.{Acts}
 use Rattle.notation.specs.Words.{tokenOf, nameOf, digitOf}
-use Rattle.notation.specs.Grammar.{recordOf, numberIn, addressIn, addressOrNone, holdIn, endingOf, requestOf, nodeOf, respondOf, changeOf, actionOf, namedOf, saidBy, lineOf}
+use Rattle.notation.specs.Grammar.{got, recordOf, labelIn, numberIn, addressIn, addressOrNone, holdIn, endingOf, requestOf, nodeOf, respondOf, changeOf, actionOf, namedOf, saidBy, lineOf}
 use Rattle.notation.specs.Lines.{spaced}
-use Rattle.transcript.specs.Printed.{addressWord, holdWord, changeWord, wordsFor}
+use Rattle.transcript.specs.Printed.{addressWord, labelWords, holdWord, changeWord, wordsFor}
 use Rattle.notation.proofs.Spaced.{Good, good-by, said-line}
 use Rattle.notation.proofs.Figures.{decimal-good, token-decimal}
 
 -- a record is told by its fields
-same-action : (a : Action) (kind node address ack hold b5 b6 b7 header datum : ℕ)
-    → a .kind ≡ kind → a .node ≡ node → a .address ≡ address → a .ack ≡ ack → a .hold ≡ hold → a .byte5 ≡ b5 → a .byte6 ≡ b6 → a .byte7 ≡ b7
+same-action : (a : Action) (kind node address ack hold label b6 b7 header datum : ℕ)
+    → a .kind ≡ kind → a .node ≡ node → a .address ≡ address → a .ack ≡ ack → a .hold ≡ hold → a .label ≡ label → a .byte6 ≡ b6 → a .byte7 ≡ b7
     → a .header ≡ header → a .datum ≡ datum
-    → record { kind = kind; node = node; address = address; ack = ack; hold = hold; byte5 = b5; byte6 = b6; byte7 = b7; header = header; datum = datum } ≡ a
-same-action a kind node address ack hold b5 b6 b7 header datum e1 e2 e3 e4 e5 e6 e7 e8 e9 e10 =
+    → record { kind = kind; node = node; address = address; ack = ack; hold = hold; label = label; byte6 = b6; byte7 = b7; header = header; datum = datum } ≡ a
+same-action a kind node address ack hold label b6 b7 header datum e1 e2 e3 e4 e5 e6 e7 e8 e9 e10 =
     rw (← e1, ← e2, ← e3, ← e4, ← e5, ← e6, ← e7, ← e8, ← e9, ← e10)
 
 -- what an accepted record has shown
@@ -44,18 +45,19 @@ shown : (n : ℕ) (a : Action) (m : Move) → read n a ≡ D.Accepted m → Show
 unfolding read
 shown n a m h =
     go (isKind (a .kind)) (clean a) (namesNode (a .kind) && not (ltb (a .node) n)) (namesAddress (a .kind) && not (isAddress n (a .address)))
-    (ltb (a .ack) 16 && ltb (a .hold) 2) refl refl refl h
+    (not (isLabel (a .label))) (ltb (a .ack) 16 && ltb (a .hold) 2) refl refl refl h
   where
-    go : (p q r s t : Bool) → isKind (a .kind) ≡ p → clean a ≡ q → (ltb (a .ack) 16 && ltb (a .hold) 2) ≡ t
+    go : (p q r s u t : Bool) → isKind (a .kind) ≡ p → clean a ≡ q → (ltb (a .ack) 16 && ltb (a .hold) 2) ≡ t
         → cond (not p) (D.Refused N.wrong-kind) (cond (not q) (D.Refused N.stray-field) (cond r (D.Refused N.wrong-node) (cond s (D.Refused N.wrong-address)
-        (cond (not t) (D.Refused N.wrong-answer) (D.Accepted (moveOf a)))))) ≡ D.Accepted m
+        (cond u (D.Refused N.wrong-label) (cond (not t) (D.Refused N.wrong-answer) (D.Accepted (moveOf a))))))) ≡ D.Accepted m
         → Shown a
-    go true true false false true ep eq et e = record { kind = ep; clear = eq; answer = et }
-    go true true false false false ep eq et e = absurd (let z : _≡_ {A = ℕ} 0 1 = cc in omega arith)
-    go true true false true t ep eq et e = absurd (let z : _≡_ {A = ℕ} 0 1 = cc in omega arith)
-    go true true true s t ep eq et e = absurd (let z : _≡_ {A = ℕ} 0 1 = cc in omega arith)
-    go true false r s t ep eq et e = absurd (let z : _≡_ {A = ℕ} 0 1 = cc in omega arith)
-    go false q r s t ep eq et e = absurd (let z : _≡_ {A = ℕ} 0 1 = cc in omega arith)
+    go true true false false false true ep eq et e = record { kind = ep; clear = eq; answer = et }
+    go true true false false false false ep eq et e = absurd (let z : _≡_ {A = ℕ} 0 1 = cc in omega arith)
+    go true true false false true t ep eq et e = absurd (let z : _≡_ {A = ℕ} 0 1 = cc in omega arith)
+    go true true false true u t ep eq et e = absurd (let z : _≡_ {A = ℕ} 0 1 = cc in omega arith)
+    go true true true s u t ep eq et e = absurd (let z : _≡_ {A = ℕ} 0 1 = cc in omega arith)
+    go true false r s u t ep eq et e = absurd (let z : _≡_ {A = ℕ} 0 1 = cc in omega arith)
+    go false q r s u t ep eq et e = absurd (let z : _≡_ {A = ℕ} 0 1 = cc in omega arith)
 
 or-zero : (b : Bool) (x : ℕ) → zeroUnless b x ≡ true → b ≡ false → x ≡ 0
 or-zero true x h e = absurd (let z : _≡_ {A = ℕ} 0 1 = cc in omega arith)
@@ -63,13 +65,13 @@ or-zero false x h e = eqb-true x 0 h
 
 -- the fields that a clean record's kind doesn't name are 0
 record Zeros (a : Action) : Type 0 where
-  five : a .byte5 ≡ 0
   six : a .byte6 ≡ 0
   seven : a .byte7 ≡ 0
   node : namesNode (a .kind) ≡ false → a .node ≡ 0
   address : namesAddress (a .kind) ≡ false → a .address ≡ 0
   ack : namesAnswer (a .kind) ≡ false → a .ack ≡ 0
   hold : namesAnswer (a .kind) ≡ false → a .hold ≡ 0
+  label : namesPacket (a .kind) ≡ false → a .label ≡ 0
   header : namesPacket (a .kind) ≡ false → a .header ≡ 0
   datum : namesPacket (a .kind) ≡ false → a .datum ≡ 0
 
@@ -77,23 +79,23 @@ zeros : (a : Action) → clean a ≡ true → Zeros a
 unfolding clean
 zeros a h =
     let k : ℕ = a .kind in
-    let r5 = and-right (eqb (a .byte5) 0) _ h in
-    let r6 = and-right (eqb (a .byte6) 0) _ r5 in
+    let r6 = and-right (eqb (a .byte6) 0) _ h in
     let r7 = and-right (eqb (a .byte7) 0) _ r6 in
     let rn = and-right (zeroUnless (namesNode k) (a .node)) _ r7 in
     let ra = and-right (zeroUnless (namesAddress k) (a .address)) _ rn in
     let rk = and-right (zeroUnless (namesAnswer k) (a .ack)) _ ra in
     let rh = and-right (zeroUnless (namesAnswer k) (a .hold)) _ rk in
+    let rl = and-right (zeroUnless (namesPacket k) (a .label)) _ rh in
     record {
-      five = eqb-true (a .byte5) 0 (and-left (eqb (a .byte5) 0) _ h);
-      six = eqb-true (a .byte6) 0 (and-left (eqb (a .byte6) 0) _ r5);
+      six = eqb-true (a .byte6) 0 (and-left (eqb (a .byte6) 0) _ h);
       seven = eqb-true (a .byte7) 0 (and-left (eqb (a .byte7) 0) _ r6);
       node = or-zero (namesNode k) (a .node) (and-left (zeroUnless (namesNode k) (a .node)) _ r7);
       address = or-zero (namesAddress k) (a .address) (and-left (zeroUnless (namesAddress k) (a .address)) _ rn);
       ack = or-zero (namesAnswer k) (a .ack) (and-left (zeroUnless (namesAnswer k) (a .ack)) _ ra);
       hold = or-zero (namesAnswer k) (a .hold) (and-left (zeroUnless (namesAnswer k) (a .hold)) _ rk);
-      header = or-zero (namesPacket k) (a .header) (and-left (zeroUnless (namesPacket k) (a .header)) _ rh);
-      datum = or-zero (namesPacket k) (a .datum) (and-right (zeroUnless (namesPacket k) (a .header)) _ rh);
+      label = or-zero (namesPacket k) (a .label) (and-left (zeroUnless (namesPacket k) (a .label)) _ rh);
+      header = or-zero (namesPacket k) (a .header) (and-left (zeroUnless (namesPacket k) (a .header)) _ rl);
+      datum = or-zero (namesPacket k) (a .datum) (and-right (zeroUnless (namesPacket k) (a .header)) _ rl);
     }
 
 -- the names as they are read
@@ -121,6 +123,10 @@ token-hold : tokenOf (ascii "hold") ≡ Word 13
 unfolding tokenOf nameOf digitOf
 token-hold = refl
 
+token-label : tokenOf (ascii "label") ≡ Word 15
+unfolding tokenOf nameOf digitOf
+token-label = refl
+
 -- an address as it is printed and read
 record Address (x : ℕ) (w : List ℕ) : Type 0 where
   good : Good w
@@ -135,45 +141,53 @@ address-word x h = go (eqb x everybody) refl
     go true e = record { good = good-by _ _ refl; short = omega arith; token = rw e token-all }
     go false e = record { good = decimal-good x; short = decimal-short 2 x (omega arith); token = rw e (token-decimal x (omega arith)) }
 
--- what the words of each form say
-say-request : (node address header datum : ℕ) → node < 256 → address < 256 → header < 4294967296 → datum < 4294967296
-    → saidBy (Word 1 ∷ Number node ∷ cond (eqb address everybody) (Word 12) (Number address) ∷ Number header ∷ Number datum ∷ [])
-    ≡ Acts (recordOf 1 node address 0 0 header datum) 1
+-- what the words of each form say; the label of a request is what l, the words after its data, say
+say-request : (node address label header datum : ℕ) (l : List Token) → node < 256 → address < 256 → header < 4294967296 → datum < 4294967296 → labelIn l ≡ got label []
+    → saidBy (Word 1 ∷ Number node ∷ cond (eqb address everybody) (Word 12) (Number address) ∷ Number header ∷ Number datum ∷ l)
+    ≡ Acts (recordOf 1 node address 0 0 label header datum) 1
 unfolding saidBy namedOf actionOf requestOf numberIn addressIn endingOf
-say-request node address header datum p q r s = go (eqb address everybody) refl
+say-request node address label header datum l p q r s t = go (eqb address everybody) refl
   where
     go : (b : Bool) → eqb address everybody ≡ b
-        → saidBy (Word 1 ∷ Number node ∷ cond b (Word 12) (Number address) ∷ Number header ∷ Number datum ∷ []) ≡ Acts (recordOf 1 node address 0 0 header datum) 1
+        → saidBy (Word 1 ∷ Number node ∷ cond b (Word 12) (Number address) ∷ Number header ∷ Number datum ∷ l) ≡ Acts (recordOf 1 node address 0 0 label header datum) 1
     go true e =
         let n1 = le-leb node 255 (omega arith) in
         let n3 = le-leb header 4294967295 (omega arith) in
         let n4 = le-leb datum 4294967295 (omega arith) in
-        rw (eqb-true address everybody e, n1, n3, n4)
+        rw (eqb-true address everybody e, n1, n3, n4, t)
     go false e =
         let n1 = le-leb node 255 (omega arith) in
         let n2 = le-leb address 255 (omega arith) in
         let n3 = le-leb header 4294967295 (omega arith) in
         let n4 = le-leb datum 4294967295 (omega arith) in
-        rw (n1, n2, n3, n4)
+        rw (n1, n2, n3, n4, t)
 
-say-respond : (node ack : ℕ) → node < 256 → ack < 256 → saidBy (Word 3 ∷ Number node ∷ Number ack ∷ []) ≡ Acts (recordOf 3 node 0 ack 0 0 0) 1
+no-label : labelIn [] ≡ got 0 []
+unfolding labelIn
+no-label = refl
+
+say-label : (label : ℕ) → label < 256 → labelIn (Word 15 ∷ Number label ∷ []) ≡ got label []
+unfolding labelIn numberIn
+say-label label p = rw (le-leb label 255 (omega arith))
+
+say-respond : (node ack : ℕ) → node < 256 → ack < 256 → saidBy (Word 3 ∷ Number node ∷ Number ack ∷ []) ≡ Acts (recordOf 3 node 0 ack 0 0 0 0) 1
 unfolding saidBy namedOf actionOf respondOf numberIn holdIn endingOf
 say-respond node ack p q = rw (le-leb node 255 (omega arith), le-leb ack 255 (omega arith))
 
-say-hold : (node ack : ℕ) → node < 256 → ack < 256 → saidBy (Word 3 ∷ Number node ∷ Number ack ∷ Word 13 ∷ []) ≡ Acts (recordOf 3 node 0 ack 1 0 0) 1
+say-hold : (node ack : ℕ) → node < 256 → ack < 256 → saidBy (Word 3 ∷ Number node ∷ Number ack ∷ Word 13 ∷ []) ≡ Acts (recordOf 3 node 0 ack 1 0 0 0) 1
 unfolding saidBy namedOf actionOf respondOf numberIn holdIn endingOf
 say-hold node ack p q = rw (le-leb node 255 (omega arith), le-leb ack 255 (omega arith))
 
 say-change : (address : ℕ) → address < 256
-    → saidBy (Word 7 ∷ cond (eqb address everybody) (Word 12) (Number address) ∷ []) ≡ Acts (recordOf 7 0 address 0 0 0 0) 1
+    → saidBy (Word 7 ∷ cond (eqb address everybody) (Word 12) (Number address) ∷ []) ≡ Acts (recordOf 7 0 address 0 0 0 0 0) 1
 unfolding saidBy namedOf actionOf changeOf addressOrNone endingOf
 say-change address p = go (eqb address everybody) refl
   where
-    go : (b : Bool) → eqb address everybody ≡ b → saidBy (Word 7 ∷ cond b (Word 12) (Number address) ∷ []) ≡ Acts (recordOf 7 0 address 0 0 0 0) 1
+    go : (b : Bool) → eqb address everybody ≡ b → saidBy (Word 7 ∷ cond b (Word 12) (Number address) ∷ []) ≡ Acts (recordOf 7 0 address 0 0 0 0 0) 1
     go true e = rw (eqb-true address everybody e)
     go false e = rw (le-leb address 255 (omega arith))
 
-bare-change : saidBy (Word 7 ∷ []) ≡ Acts (recordOf 7 0 0 0 0 0 0) 1
+bare-change : saidBy (Word 7 ∷ []) ≡ Acts (recordOf 7 0 0 0 0 0 0 0) 1
 unfolding saidBy namedOf actionOf changeOf addressOrNone endingOf
 bare-change = refl
 
@@ -184,19 +198,19 @@ module _ (a : Action) (f : Fits a) (s : Shown a) where
 
   -- "`pass`, `lose`, […] `grant`, `gap`, `reset`"
   bare : (k : ℕ) (w : List ℕ) → a .kind ≡ k → wordsFor a ≡ w ∷ [] → Good w → length w ≤ 9 → tokenOf w ≡ Word k
-      → saidBy (Word k ∷ []) ≡ Acts (recordOf k 0 0 0 0 0 0) 1
+      → saidBy (Word k ∷ []) ≡ Acts (recordOf k 0 0 0 0 0 0 0) 1
       → namesNode k ≡ false → namesAddress k ≡ false → namesAnswer k ≡ false → namesPacket k ≡ false → lineOf (spaced (wordsFor a)) ≡ Acts a 1
   bare k w e words good short token says nn na nk np =
       rw words
       (said-line (w ∷ []) (good, tt) (omega arith)
       ∙ (rw token says
       ∙ ap (λ (x : Action). Acts x 1)
-      (same-action a k 0 0 0 0 0 0 0 0 0 e (z .node (rw e nn)) (z .address (rw e na)) (z .ack (rw e nk)) (z .hold (rw e nk)) (z .five) (z .six) (z .seven)
+      (same-action a k 0 0 0 0 0 0 0 0 0 e (z .node (rw e nn)) (z .address (rw e na)) (z .ack (rw e nk)) (z .hold (rw e nk)) (z .label (rw e np)) (z .six) (z .seven)
       (z .header (rw e np)) (z .datum (rw e np)))))
 
   -- "`arbitrate 0`", "`clock 0`"
   of-node : (k : ℕ) (w : List ℕ) → a .kind ≡ k → wordsFor a ≡ w ∷ decimal (a .node) ∷ [] → Good w → length w ≤ 9 → tokenOf w ≡ Word k
-      → saidBy (Word k ∷ Number (a .node) ∷ []) ≡ Acts (recordOf k (a .node) 0 0 0 0 0) 1
+      → saidBy (Word k ∷ Number (a .node) ∷ []) ≡ Acts (recordOf k (a .node) 0 0 0 0 0 0) 1
       → namesAddress k ≡ false → namesAnswer k ≡ false → namesPacket k ≡ false → lineOf (spaced (wordsFor a)) ≡ Acts a 1
   of-node k w e words good short token says na nk np =
       let small = f .node-fits in
@@ -205,32 +219,53 @@ module _ (a : Action) (f : Fits a) (s : Shown a) where
       (said-line (w ∷ decimal (a .node) ∷ []) (good, (decimal-good (a .node), tt)) (omega arith)
       ∙ (rw (token, token-decimal (a .node) (omega arith)) says
       ∙ ap (λ (x : Action). Acts x 1)
-      (same-action a k (a .node) 0 0 0 0 0 0 0 0 e refl (z .address (rw e na)) (z .ack (rw e nk)) (z .hold (rw e nk)) (z .five) (z .six) (z .seven)
+      (same-action a k (a .node) 0 0 0 0 0 0 0 0 e refl (z .address (rw e na)) (z .ack (rw e nk)) (z .hold (rw e nk)) (z .label (rw e np)) (z .six) (z .seven)
       (z .header (rw e np)) (z .datum (rw e np)))))
 
   request-words : a .kind ≡ 1
-      → wordsFor a ≡ ascii "request" ∷ decimal (a .node) ∷ addressWord (a .address) ∷ decimal (a .header) ∷ decimal (a .datum) ∷ []
+      → wordsFor a ≡ ascii "request" ∷ decimal (a .node) ∷ addressWord (a .address) ∷ decimal (a .header) ∷ decimal (a .datum) ∷ labelWords (a .label)
   unfolding wordsFor
   request-words e = rw e
 
   request : a .kind ≡ 1 → lineOf (spaced (wordsFor a)) ≡ Acts a 1
-  request e =
-      let sn = f .node-fits in
-      let sa = f .address-fits in
-      let sh = f .header-fits in
-      let sd = f .datum-fits in
-      let to = address-word (a .address) sa in
-      let at = to .short in
-      let l1 = decimal-short 2 (a .node) (omega arith) in
-      let l2 = decimal-short 9 (a .header) (omega arith) in
-      let l3 = decimal-short 9 (a .datum) (omega arith) in
-      rw (request-words e)
-      (said-line (ascii "request" ∷ decimal (a .node) ∷ addressWord (a .address) ∷ decimal (a .header) ∷ decimal (a .datum) ∷ [])
-      (good-by _ _ refl, (decimal-good (a .node), (to .good, (decimal-good (a .header), (decimal-good (a .datum), tt))))) (omega arith)
-      ∙ (rw (token-request, token-decimal (a .node) (omega arith), to .token, token-decimal (a .header) sh, token-decimal (a .datum) sd)
-      (say-request (a .node) (a .address) (a .header) (a .datum) sn sa sh sd)
-      ∙ ap (λ (x : Action). Acts x 1)
-      (same-action a 1 (a .node) (a .address) 0 0 0 0 0 (a .header) (a .datum) e refl refl (z .ack (rw e)) (z .hold (rw e)) (z .five) (z .six) (z .seven) refl refl)))
+  request e = rw (request-words e) (go (eqb (a .label) 0) refl)
+    where
+      to : Address (a .address) (addressWord (a .address))
+      to = address-word (a .address) (f .address-fits)
+
+      whole : (label : ℕ) → a .label ≡ label → recordOf 1 (a .node) (a .address) 0 0 label (a .header) (a .datum) ≡ a
+      whole label h = same-action a 1 (a .node) (a .address) 0 0 label 0 0 (a .header) (a .datum) e refl refl (z .ack (rw e)) (z .hold (rw e)) h (z .six) (z .seven) refl refl
+
+      go : (b : Bool) → eqb (a .label) 0 ≡ b
+          → lineOf (spaced (ascii "request" ∷ decimal (a .node) ∷ addressWord (a .address) ∷ decimal (a .header) ∷ decimal (a .datum) ∷ cond b [] (ascii "label" ∷ decimal (a .label) ∷ []))) ≡ Acts a 1
+      go true h =
+          let sn = f .node-fits in
+          let sh = f .header-fits in
+          let sd = f .datum-fits in
+          let at = to .short in
+          let l1 = decimal-short 2 (a .node) (omega arith) in
+          let l2 = decimal-short 9 (a .header) (omega arith) in
+          let l3 = decimal-short 9 (a .datum) (omega arith) in
+          said-line (ascii "request" ∷ decimal (a .node) ∷ addressWord (a .address) ∷ decimal (a .header) ∷ decimal (a .datum) ∷ [])
+          (good-by _ _ refl, (decimal-good (a .node), (to .good, (decimal-good (a .header), (decimal-good (a .datum), tt))))) (omega arith)
+          ∙ (rw (token-request, token-decimal (a .node) (omega arith), to .token, token-decimal (a .header) sh, token-decimal (a .datum) sd)
+          (say-request (a .node) (a .address) 0 (a .header) (a .datum) [] sn (f .address-fits) sh sd no-label)
+          ∙ ap (λ (x : Action). Acts x 1) (whole 0 (eqb-true (a .label) 0 h)))
+      go false h =
+          let sn = f .node-fits in
+          let sh = f .header-fits in
+          let sd = f .datum-fits in
+          let sl = f .label-fits in
+          let at = to .short in
+          let l1 = decimal-short 2 (a .node) (omega arith) in
+          let l2 = decimal-short 9 (a .header) (omega arith) in
+          let l3 = decimal-short 9 (a .datum) (omega arith) in
+          let l4 = decimal-short 2 (a .label) (omega arith) in
+          said-line (ascii "request" ∷ decimal (a .node) ∷ addressWord (a .address) ∷ decimal (a .header) ∷ decimal (a .datum) ∷ ascii "label" ∷ decimal (a .label) ∷ [])
+          (good-by _ _ refl, (decimal-good (a .node), (to .good, (decimal-good (a .header), (decimal-good (a .datum), (good-by _ _ refl, (decimal-good (a .label), tt))))))) (omega arith)
+          ∙ (rw (token-request, token-decimal (a .node) (omega arith), to .token, token-decimal (a .header) sh, token-decimal (a .datum) sd, token-label, token-decimal (a .label) (omega arith))
+          (say-request (a .node) (a .address) (a .label) (a .header) (a .datum) _ sn (f .address-fits) sh sd (say-label (a .label) sl))
+          ∙ ap (λ (x : Action). Acts x 1) (whole (a .label) refl))
 
   respond-words : a .kind ≡ 3 → wordsFor a ≡ ascii "respond" ∷ decimal (a .node) ∷ decimal (a .ack) ∷ holdWord (a .hold)
   unfolding wordsFor
@@ -258,7 +293,7 @@ module _ (a : Action) (f : Fits a) (s : Shown a) where
           said-line (ascii "respond" ∷ decimal (a .node) ∷ decimal (a .ack) ∷ []) (good-by _ _ refl, (decimal-good (a .node), (decimal-good (a .ack), tt))) (omega arith)
           ∙ (rw (token-respond, token-decimal (a .node) (omega arith), token-decimal (a .ack) (omega arith)) (say-respond (a .node) (a .ack) sn sk)
           ∙ ap (λ (x : Action). Acts x 1)
-          (same-action a 3 (a .node) 0 (a .ack) 0 0 0 0 0 0 e refl (z .address (rw e)) refl (eqb-true (a .hold) 0 h) (z .five) (z .six) (z .seven)
+          (same-action a 3 (a .node) 0 (a .ack) 0 0 0 0 0 0 e refl (z .address (rw e)) refl (eqb-true (a .hold) 0 h) (z .label (rw e)) (z .six) (z .seven)
           (z .header (rw e)) (z .datum (rw e))))
       go false h =
           let hn = sn in
@@ -272,7 +307,7 @@ module _ (a : Action) (f : Fits a) (s : Shown a) where
           (good-by _ _ refl, (decimal-good (a .node), (decimal-good (a .ack), (good-by _ _ refl, tt)))) (omega arith)
           ∙ (rw (token-respond, token-decimal (a .node) (omega arith), token-decimal (a .ack) (omega arith), token-hold) (say-hold (a .node) (a .ack) sn sk)
           ∙ ap (λ (x : Action). Acts x 1)
-          (same-action a 3 (a .node) 0 (a .ack) 1 0 0 0 0 0 e refl (z .address (rw e)) refl one (z .five) (z .six) (z .seven) (z .header (rw e)) (z .datum (rw e))))
+          (same-action a 3 (a .node) 0 (a .ack) 1 0 0 0 0 0 e refl (z .address (rw e)) refl one (z .label (rw e)) (z .six) (z .seven) (z .header (rw e)) (z .datum (rw e))))
 
   change-words : a .kind ≡ 7 → wordsFor a ≡ ascii "change" ∷ changeWord (a .address)
   unfolding wordsFor
@@ -281,9 +316,9 @@ module _ (a : Action) (f : Fits a) (s : Shown a) where
   change : a .kind ≡ 7 → lineOf (spaced (wordsFor a)) ≡ Acts a 1
   change e = rw (change-words e) (go (eqb (a .address) 0) refl)
     where
-      whole : (x : ℕ) → a .address ≡ x → recordOf 7 0 x 0 0 0 0 ≡ a
+      whole : (x : ℕ) → a .address ≡ x → recordOf 7 0 x 0 0 0 0 0 ≡ a
       whole x h =
-          same-action a 7 0 x 0 0 0 0 0 0 0 e (z .node (rw e)) h (z .ack (rw e)) (z .hold (rw e)) (z .five) (z .six) (z .seven) (z .header (rw e)) (z .datum (rw e))
+          same-action a 7 0 x 0 0 0 0 0 0 0 e (z .node (rw e)) h (z .ack (rw e)) (z .hold (rw e)) (z .label (rw e)) (z .six) (z .seven) (z .header (rw e)) (z .datum (rw e))
 
       go : (b : Bool) → eqb (a .address) 0 ≡ b → lineOf (spaced (ascii "change" ∷ cond b [] (addressWord (a .address) ∷ []))) ≡ Acts a 1
       go true h =

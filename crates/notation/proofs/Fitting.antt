@@ -17,7 +17,7 @@ use Rattle.notation.specs.declared.Line.the-variants.{Blank, Nodes, Acts
 use Rattle.notation.specs.declared.words.Token.{Token}
 use Rattle.notation.specs.declared.words.Token.the-variants.{Word, Number, Large}
 use Rattle.notation.specs.Words as W
-use Rattle.notation.specs.Grammar.{Part, got, bad, after, isWord, byte, long, numeral, numberIn, addressAt, addressIn, addressOrNone, holdIn, lastOf, timesOf, repeatOf, endingOf, recordOf, requestOf, nodeOf, respondOf, changeOf, actionOf, nodesThen, nodesOf, namedOf, saidBy, lineOf}
+use Rattle.notation.specs.Grammar.{Part, got, bad, after, isWord, byte, long, numeral, numberIn, addressAt, addressIn, addressOrNone, holdIn, lastOf, timesOf, repeatOf, endingOf, recordOf, labelIn, requestOf, nodeOf, respondOf, changeOf, actionOf, nodesThen, nodesOf, namedOf, saidBy, lineOf}
 
 abbrev pub Fitting : Line → Type 0
 Fitting Blank = Unit
@@ -70,6 +70,11 @@ unfolding holdIn
 hold-most [] = omega arith
 hold-most (t ∷ l) = either-field byte (isWord W.hold t) _ _ (λ e. omega arith) (omega arith)
 
+label-most : (l : List Token) → AtMost byte (labelIn l)
+unfolding labelIn
+label-most [] = omega arith
+label-most (t ∷ l) = either-field byte (isWord W.label t) _ _ (λ e. number-most byte l) (omega arith)
+
 -- the end of an action's line
 last-fitting : (r : Line) (l : List Token) → Fitting r → Fitting (lastOf r l)
 unfolding lastOf
@@ -86,15 +91,15 @@ unfolding endingOf
 ending-fitting a [] f = f
 ending-fitting a (t ∷ l) f = either (isWord W.times t) (repeatOf a l) (Wrong ExtraField) (λ e. repeat-fitting a l f) tt
 
-record-fits : (kind node address ack hold header datum : ℕ) → kind < 256 → node ≤ byte → address ≤ byte → ack ≤ byte → hold ≤ byte → header ≤ long → datum ≤ long
-    → Fits (recordOf kind node address ack hold header datum)
-record-fits kind node address ack hold header datum k n a c h x d = record {
+record-fits : (kind node address ack hold label header datum : ℕ) → kind < 256 → node ≤ byte → address ≤ byte → ack ≤ byte → hold ≤ byte → label ≤ byte → header ≤ long → datum ≤ long
+    → Fits (recordOf kind node address ack hold label header datum)
+record-fits kind node address ack hold label header datum k n a c h y x d = record {
   kind-fits = k;
   node-fits = omega arith;
   address-fits = omega arith;
   ack-fits = omega arith;
   hold-fits = omega arith;
-  byte5-fits = omega arith;
+  label-fits = omega arith;
   byte6-fits = omega arith;
   byte7-fits = omega arith;
   header-fits = omega arith;
@@ -108,13 +113,14 @@ request-fitting l =
     then-fitting byte (addressIn l1) _ (address-most l1) λ address l2 a.
     then-fitting long (numberIn long l2) _ (number-most long l2) λ header l3 x.
     then-fitting long (numberIn long l3) _ (number-most long l3) λ datum l4 d.
-    ending-fitting _ l4 (record-fits 1 node address 0 0 header datum (omega arith) n a (omega arith) (omega arith) x d)
+    then-fitting byte (labelIn l4) _ (label-most l4) λ label l5 y.
+    ending-fitting _ l5 (record-fits 1 node address 0 0 label header datum (omega arith) n a (omega arith) (omega arith) y x d)
 
 node-fitting : (kind : ℕ) (l : List Token) → kind < 256 → Fitting (nodeOf kind l)
 unfolding nodeOf
 node-fitting kind l k =
     then-fitting byte (numberIn byte l) _ (number-most byte l) λ node l1 n.
-    ending-fitting _ l1 (record-fits kind node 0 0 0 0 0 k n (omega arith) (omega arith) (omega arith) (omega arith) (omega arith))
+    ending-fitting _ l1 (record-fits kind node 0 0 0 0 0 0 k n (omega arith) (omega arith) (omega arith) (omega arith) (omega arith) (omega arith))
 
 respond-fitting : (l : List Token) → Fitting (respondOf l)
 unfolding respondOf
@@ -122,13 +128,13 @@ respond-fitting l =
     then-fitting byte (numberIn byte l) _ (number-most byte l) λ node l1 n.
     then-fitting byte (numberIn byte l1) _ (number-most byte l1) λ ack l2 c.
     then-fitting byte (holdIn l2) _ (hold-most l2) λ hold l3 h.
-    ending-fitting _ l3 (record-fits 3 node 0 ack hold 0 0 (omega arith) n (omega arith) c h (omega arith) (omega arith))
+    ending-fitting _ l3 (record-fits 3 node 0 ack hold 0 0 0 (omega arith) n (omega arith) c h (omega arith) (omega arith) (omega arith))
 
 change-fitting : (l : List Token) → Fitting (changeOf l)
 unfolding changeOf
 change-fitting l =
     then-fitting byte (addressOrNone l) _ (none-most l) λ address l1 a.
-    ending-fitting _ l1 (record-fits 7 0 address 0 0 0 0 (omega arith) (omega arith) a (omega arith) (omega arith) (omega arith) (omega arith))
+    ending-fitting _ l1 (record-fits 7 0 address 0 0 0 0 0 (omega arith) (omega arith) a (omega arith) (omega arith) (omega arith) (omega arith) (omega arith))
 
 action-fitting : (kind : ℕ) (l : List Token) → kind < 256 → Fitting (actionOf kind l)
 unfolding actionOf
@@ -138,7 +144,7 @@ action-fitting kind l k =
     (either (eqb kind 3) _ _ (λ e. respond-fitting l)
     (either (eqb kind 4) _ _ (λ e. node-fitting 4 l (omega arith))
     (either (eqb kind 7) _ _ (λ e. change-fitting l)
-    (ending-fitting _ l (record-fits kind 0 0 0 0 0 0 k (omega arith) (omega arith) (omega arith) (omega arith) (omega arith) (omega arith)))))))
+    (ending-fitting _ l (record-fits kind 0 0 0 0 0 0 0 k (omega arith) (omega arith) (omega arith) (omega arith) (omega arith) (omega arith) (omega arith)))))))
 
 nodes-fitting : (l : List Token) → Fitting (nodesOf l)
 unfolding nodesOf

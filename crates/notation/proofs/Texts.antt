@@ -69,7 +69,7 @@ unfolding wordsFor
 words-good a =
     let k : ℕ = a .kind in
     let figure : (x : ℕ) → Good (decimal x) = decimal-good in
-    either (eqb k 1) _ _ (good-by _ _ refl, (figure (a .node), (address-good (a .address), (figure (a .header), (figure (a .datum), tt)))))
+    either (eqb k 1) _ _ (good-by _ _ refl, (figure (a .node), (address-good (a .address), (figure (a .header), (figure (a .datum), either (eqb (a .label) 0) _ _ tt (good-by _ _ refl, (figure (a .label), tt)))))))
     (either (eqb k 2) _ _ (good-by _ _ refl, (figure (a .node), tt))
     (either (eqb k 3) _ _ (good-by _ _ refl, (figure (a .node), (figure (a .ack), either (eqb (a .hold) 0) _ _ tt (good-by _ _ refl, tt))))
     (either (eqb k 4) _ _ (good-by _ _ refl, (figure (a .node), tt))

@@ -9,8 +9,8 @@ use Rattle.transcript.specs.Text.{ascii, decimal}
 use Rattle.faults.specs.Faults.{faultWords, shownByte, shown, hint, fieldOf, fieldWords, causeWords, faultLine}
 use Rattle.notation.specs.declared.Blamed.{Blamed}
 use Rattle.notation.specs.Words.{nameOf, digitOf, digitsOf, tokenOf, tokensOf}
-use Rattle.notation.specs.Grammar.{numberIn, addressIn, addressOrNone, holdIn, lastOf, repeatOf, endingOf, requestOf, nodeOf, respondOf, changeOf, actionOf, nodesOf, namedOf, saidBy, lineOf}
-use Rattle.notation.specs.Blame.{isWrong, endsWith, isAt, firstIn, wordIn, statementIn, refusalOf, blameIn, blameOf}
+use Rattle.notation.specs.Grammar.{numberIn, addressIn, addressOrNone, holdIn, labelIn, lastOf, repeatOf, endingOf, requestOf, nodeOf, respondOf, changeOf, actionOf, nodesOf, namedOf, saidBy, lineOf}
+use Rattle.notation.specs.Blame.{isWrong, endsWith, isAt, firstIn, wordIn, statementIn, refusalOf, placeAt, blameIn, blameOf}
 
 -- the line that is said of line `number` of a text, for n nodes
 abbrev shownOf : ℕ → List ℕ → Fault → Blamed → List ℕ
@@ -30,8 +30,14 @@ examples :
     × (told 1 0 (ascii "  nodes   64\t# y") (F.Refused 1) ≡ ascii "line 1: refused 1: nodes   64: a bus has 2 to 63 nodes\n")
     × (told 2 2 (ascii "request 0 2 3 4 * 7\r") (F.Refused 5) ≡ ascii "line 2: refused 5: request 0 2 3 4 * 7: no address 2, addresses are 0 to 1 and all\n")
     × (told 2 2 (ascii "respond 0 16 hold") (F.Refused 6) ≡ ascii "line 2: refused 6: respond 0 16 hold: no acknowledgement 16, they are 0 to 15\n")
+    × (told 2 2 (ascii "request 0 1 5 6 label 64 * 2") (F.Refused 13) ≡ ascii "line 2: refused 13: request 0 1 5 6 label 64 * 2: no label 64, labels are 0 to 63\n")
+    × (told 3 2 (ascii "request 0 1 5 6 label # 7") F.MissingField ≡ ascii "line 3: missing field: the label of request\n")
+    × (told 4 2 (ascii "request 0 1 5 6 label 256") F.TooLarge ≡ ascii "line 4: number too large: \"256\", the label of request, at most 255\n")
+    × (told 5 2 (ascii "request 0 1 5 6 * x") F.NotNumber ≡ ascii "line 5: not a number: \"x\", the count after *\n")
+    × (told 6 2 (ascii "request 0 1 5 6 label 7 * x") F.NotNumber ≡ ascii "line 6: not a number: \"x\", the count after *\n")
+    × (told 7 2 (ascii "request 0 1 5 6 7") F.ExtraField ≡ ascii "line 7: extra field: \"7\"\n")
     × (told 2 2 (ascii "pass" ++ (194 ∷ 160 ∷ ascii "* 2")) F.UnknownWord ≡ ascii "line 2: unknown word: \"pass\\xC2\\xA0*\" (a no-break space: write a plain one)\n")
     × (told 1 0 (255 ∷ 254 ∷ 110 ∷ 0 ∷ []) F.UnknownWord ≡ ascii "line 1: unknown word: \"\\xFF\\xFEn\\x00\" (no plain text: UTF-16, or a binary file)\n")
     × (told 1 0 (replicate 70 97) F.UnknownWord ≡ ascii "line 1: unknown word: \"" ++ (replicate 64 97 ++ ascii "..\"\n"))
-unfolding faultWords shownByte shown hint fieldOf fieldWords causeWords faultLine decimal nameOf digitOf digitsOf tokenOf tokensOf numberIn addressIn addressOrNone holdIn lastOf repeatOf endingOf requestOf nodeOf respondOf changeOf actionOf nodesOf namedOf saidBy lineOf isWrong endsWith isAt firstIn wordIn statementIn refusalOf blameIn blameOf
-examples = (refl, refl, refl, refl, refl, refl, refl, refl, refl, refl, refl, refl, refl)
+unfolding faultWords shownByte shown hint fieldOf fieldWords causeWords faultLine decimal nameOf digitOf digitsOf tokenOf tokensOf numberIn addressIn addressOrNone holdIn labelIn lastOf repeatOf endingOf requestOf nodeOf respondOf changeOf actionOf nodesOf namedOf saidBy lineOf isWrong endsWith isAt firstIn wordIn statementIn refusalOf placeAt blameIn blameOf
+examples = (refl, refl, refl, refl, refl, refl, refl, refl, refl, refl, refl, refl, refl, refl, refl, refl, refl, refl, refl)

@@ -46,11 +46,12 @@ isWrong (Wrong f) = not (isMissing f)
 unfoldable pub endsWith : List ℕ → ℕ → Bool
 endsWith line i = not (isBlank (getD line i 0)) && (leb (length line) (i + 1) || isBlank (getD line (i + 1) 0))
 
--- what may stand at a place: a comment's `#`, a blank, a byte of a word, the last byte of a word with which "the line is wrong already"
+-- what may stand at a place: a comment's `#`, a blank, a byte of a word, a `*`, the last byte of a word with which "the line is wrong already"
 unfoldable pub isAt : Mark → List ℕ → ℕ → Bool
 isAt M.Comment line i = isHash (getD line i 0)
 isAt M.Space line i = isBlank (getD line i 0)
 isAt M.Text line i = not (isBlank (getD line i 0))
+isAt M.Star line i = eqb (getD line i 0) 42
 isAt M.Fatal line i = endsWith line i && isWrong (lineOf (take (i + 1) line))
 
 -- the first such place from i on, in k places, or the place after them
@@ -101,22 +102,27 @@ refusalOf n k (Nodes m) = cond (eqb k N.wrong-size) C.Size C.Plain
 refusalOf n k (Acts a t) =
     cond (eqb k N.wrong-node) (C.Node (a .node) n)
     (cond (eqb k N.wrong-address) (C.Address (a .address) n)
+    (cond (eqb k N.wrong-label) (C.Label (a .label))
     (cond (eqb k N.wrong-answer) (C.Ack (a .ack))
-    C.Plain))
+    C.Plain)))
 refusalOf n k (Wrong f) = C.Plain
 
 abbrev pub blamed : Cause → Span → Blamed
 blamed cause s = record { cause = cause; from = s .from; to = s .to }
 
+-- the place of a field that begins at a place of the line: as many words stand before it, but "what follows a `*`", the last byte of a word before it, has place 0
+unfoldable pub placeAt : List ℕ → ℕ → ℕ
+placeAt line i = cond (eqb (afterLast M.Star line i) (afterLast M.Text line i)) 0 (wordsBefore line i)
+
 abbrev pub placeOf : List ℕ → ℕ
-placeOf line = wordsBefore line (wordIn line .from)
+placeOf line = placeAt line (wordIn line .from)
 
 -- the cause by the table of "What can be wrong", for a line without its comment
 unfoldable pub blameIn : ℕ → List ℕ → Fault → Blamed
 blameIn n line F.UnknownWord = blamed C.Quoted (wordIn line)
 blameIn n line F.NotNumber = blamed (C.Field (kindOf line) (placeOf line)) (wordIn line)
 blameIn n line F.TooLarge = blamed (C.Large (kindOf line) (placeOf line)) (wordIn line)
-blameIn n line F.MissingField = blamed (C.Missing (kindOf line) (wordsBefore line (length line))) (span 0 0)
+blameIn n line F.MissingField = blamed (C.Missing (kindOf line) (placeAt line (length line))) (span 0 0)
 blameIn n line F.ExtraField = blamed C.Quoted (wordIn line)
 blameIn n line F.NoRepeat = blamed C.Plain (span 0 0)
 blameIn n line F.LongLine = blamed C.Plain (span 0 0)

@@ -96,24 +96,29 @@ endingOf a [] = Acts a 1
 endingOf a (t ∷ l) = cond (isWord W.times t) (repeatOf a l) (Wrong ExtraField)
 
 -- an action record: "Fields that a kind doesn't name are 0"
-abbrev pub recordOf : ℕ → ℕ → ℕ → ℕ → ℕ → ℕ → ℕ → Action
-recordOf kind node address ack hold header datum =
-    record { kind = kind; node = node; address = address; ack = ack; hold = hold; byte5 = 0; byte6 = 0; byte7 = 0; header = header; datum = datum }
+abbrev pub recordOf : ℕ → ℕ → ℕ → ℕ → ℕ → ℕ → ℕ → ℕ → Action
+recordOf kind node address ack hold label header datum =
+    record { kind = kind; node = node; address = address; ack = ack; hold = hold; label = label; byte6 = 0; byte7 = 0; header = header; datum = datum }
 
--- "`request 0 1 5 6` (node, address or `all`, header, data)"
+-- "`request NODE ADDRESS HEADER DATA label LABEL`, the two last words optional (label 0)"
+unfoldable pub labelIn : List Token → Part
+labelIn [] = got 0 []
+labelIn (t ∷ l) = cond (isWord W.label t) (numberIn byte l) (got 0 (t ∷ l))
+
 unfoldable pub requestOf : List Token → Line
 requestOf l =
     after (numberIn byte l) λ node l1.
     after (addressIn l1) λ address l2.
     after (numberIn long l2) λ header l3.
     after (numberIn long l3) λ datum l4.
-    endingOf (recordOf 1 node address 0 0 header datum) l4
+    after (labelIn l4) λ label l5.
+    endingOf (recordOf 1 node address 0 0 label header datum) l5
 
 -- "`arbitrate 0`", "`clock 0`"
 unfoldable pub nodeOf : ℕ → List Token → Line
 nodeOf kind l =
     after (numberIn byte l) λ node l1.
-    endingOf (recordOf kind node 0 0 0 0 0) l1
+    endingOf (recordOf kind node 0 0 0 0 0 0) l1
 
 -- "`respond 1 1 hold` / `respond 1 1`": node, acknowledgement, hold
 unfoldable pub respondOf : List Token → Line
@@ -121,13 +126,13 @@ respondOf l =
     after (numberIn byte l) λ node l1.
     after (numberIn byte l1) λ ack l2.
     after (holdIn l2) λ hold l3.
-    endingOf (recordOf 3 node 0 ack hold 0 0) l3
+    endingOf (recordOf 3 node 0 ack hold 0 0 0) l3
 
 -- "`change 2` / `change`"
 unfoldable pub changeOf : List Token → Line
 changeOf l =
     after (addressOrNone l) λ address l1.
-    endingOf (recordOf 7 0 address 0 0 0 0) l1
+    endingOf (recordOf 7 0 address 0 0 0 0 0) l1
 
 -- an action's line after its first word; "`pass`, `lose`, […] `grant`, `gap`, `reset`" have no field
 unfoldable pub actionOf : ℕ → List Token → Line
@@ -137,7 +142,7 @@ actionOf kind l =
     (cond (eqb kind 3) (respondOf l)
     (cond (eqb kind 4) (nodeOf 4 l)
     (cond (eqb kind 7) (changeOf l)
-    (endingOf (recordOf kind 0 0 0 0 0 0) l)))))
+    (endingOf (recordOf kind 0 0 0 0 0 0 0) l)))))
 
 -- "`nodes 3` first"
 abbrev pub nodesThen : ℕ → List Token → Line

@@ -40,11 +40,11 @@ same [] (c ∷ m) = false
 same (b ∷ l) [] = false
 same (b ∷ l) (c ∷ m) = eqb b c && same l m
 
--- document 01's words of the ten kinds, in the order of the kinds; then the four other words
+-- document 01's words of the ten kinds, in the order of the kinds; then the five other words
 abbrev pub names : List (List ℕ)
 names =
     ascii "request" ∷ ascii "arbitrate" ∷ ascii "respond" ∷ ascii "clock" ∷ ascii "pass" ∷ ascii "lose" ∷ ascii "change" ∷ ascii "grant" ∷ ascii "gap"
-    ∷ ascii "reset" ∷ ascii "nodes" ∷ ascii "all" ∷ ascii "hold" ∷ ascii "*" ∷ []
+    ∷ ascii "reset" ∷ ascii "nodes" ∷ ascii "all" ∷ ascii "hold" ∷ ascii "*" ∷ ascii "label" ∷ []
 
 abbrev pub nodes : ℕ
 nodes = 11
@@ -57,6 +57,9 @@ hold = 13
 
 abbrev pub times : ℕ
 times = 14
+
+abbrev pub label : ℕ
+label = 15
 
 -- the place of a word among names of which the first has place k; 0 for an unknown word
 abbrev pub placeIn : ℕ → List (List ℕ) → List ℕ → ℕ

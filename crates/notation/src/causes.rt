@@ -3,7 +3,7 @@ ghost use mathlib.Core.Path.{_≡_};
 ghost use Prim.Native.Nat.{_<_, _≤_};
 ghost use lib.ListN.{length};
 ghost use Rattle.notation.specs.Blame.{isMissing, isWrong, endsWith, isAt, firstIn, afterLast, wordsBefore};
-ghost use Rattle.notation.specs.Blame.{wordIn, statementIn, kindOf, refusalOf, span, blamed, blameIn};
+ghost use Rattle.notation.specs.Blame.{wordIn, statementIn, kindOf, refusalOf, span, placeAt, blamed, blameIn};
 use crate::Blamed;
 use crate::Line;
 use crate::words;
@@ -21,11 +21,14 @@ const WRONG_ADDRESS: u8 = 5;
 
 const WRONG_ANSWER: u8 = 6;
 
-// What is looked for in a line: a comment's `#`, a blank, a byte of a word, the last byte of a word with which the line is wrong already.
+const WRONG_LABEL: u8 = 13;
+
+// What is looked for in a line: a comment's `#`, a blank, a byte of a word, a `*`, the last byte of a word with which the line is wrong already.
 pub(crate) enum Mark {
     Comment,
     Space,
     Text,
+    Star,
     Fatal,
 }
 
@@ -86,6 +89,7 @@ fn is_at(m: Mark, line: &[u8], i: usize) -> bool
         Mark::Comment => line[i] == b'#',
         Mark::Space => words::is_blank(line[i]),
         Mark::Text => !words::is_blank(line[i]),
+        Mark::Star => line[i] == b'*',
         Mark::Fatal => {
             if !ends_with(line, i) {
                 return false;
@@ -205,6 +209,9 @@ fn refusal(n: u8, k: u8, said: Line) -> Cause
             if k == WRONG_ADDRESS {
                 return Cause::Address(a.address, n);
             }
+            if k == WRONG_LABEL {
+                return Cause::Label(a.label);
+            }
             if k == WRONG_ANSWER {
                 return Cause::Ack(a.ack);
             }
@@ -234,13 +241,16 @@ pub(crate) fn nowhere(cause: Cause) -> Blamed
     }
 }
 
-// The place of a word among the line's words.
-fn place_of(line: &[u8], s: Span) -> u8
+// The place of the field that begins at `i`; 0 for what follows a `*`.
+fn place_at(line: &[u8], i: usize) -> u8
     requires { ⌜ length (now line) ≤ 255 ⌝ }
-    requires { ⌜ s .from ≤ length (now line) ⌝ }
-    ensures { λ r. ⌜ r ≡ wordsBefore (now (line .entry)) (s .from) ⌝ }
+    requires { ⌜ i ≤ length (now line) ⌝ }
+    ensures { λ r. ⌜ r ≡ placeAt (now (line .entry)) i ⌝ }
 {
-    words_before(line, s.from) as u8
+    if after_last(Mark::Star, line, i) == after_last(Mark::Text, line, i) {
+        return 0;
+    }
+    words_before(line, i) as u8
 }
 
 // A line without its comment.
@@ -253,16 +263,13 @@ pub(crate) fn blame_in(n: u8, line: &[u8], fault: Fault) -> Blamed
         Fault::UnknownWord => at_span(Cause::Quoted, word_in(line)),
         Fault::NotNumber => {
             let w = word_in(line);
-            at_span(Cause::Field(kind_of(line), place_of(line, w)), w)
+            at_span(Cause::Field(kind_of(line), place_at(line, w.from)), w)
         }
         Fault::TooLarge => {
             let w = word_in(line);
-            at_span(Cause::Large(kind_of(line), place_of(line, w)), w)
+            at_span(Cause::Large(kind_of(line), place_at(line, w.from)), w)
         }
-        Fault::MissingField => nowhere(Cause::Missing(
-            kind_of(line),
-            words_before(line, line.len()) as u8,
-        )),
+        Fault::MissingField => nowhere(Cause::Missing(kind_of(line), place_at(line, line.len()))),
         Fault::ExtraField => at_span(Cause::Quoted, word_in(line)),
         Fault::NoRepeat => nowhere(Cause::Plain),
         Fault::LongLine => nowhere(Cause::Plain),

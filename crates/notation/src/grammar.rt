@@ -4,7 +4,7 @@ ghost use Rattle.charts.specs.Records.{isKind};
 ghost use Rattle.notation.specs.Words.{tokensOf};
 ghost use Rattle.notation.specs.Cursors.{tokensLeft};
 ghost use Rattle.notation.specs.Grammar.{seen, faultOf, fieldFits, isWord, numeral, numberIn, addressAt, addressIn, addressOrNone, holdIn};
-ghost use Rattle.notation.specs.Grammar.{lastOf, repeatOf, endingOf, recordOf, requestOf, nodeOf, respondOf, changeOf, actionOf, nodesOf, namedOf, saidBy};
+ghost use Rattle.notation.specs.Grammar.{lastOf, repeatOf, endingOf, recordOf, labelIn, requestOf, nodeOf, respondOf, changeOf, actionOf, nodesOf, namedOf, saidBy};
 use crate::Line;
 use crate::words;
 use crate::words::Cursor;
@@ -120,6 +120,23 @@ fn hold(line: &[u8], c: Cursor) -> Field
     }
 }
 
+// The label of a `request`, 0 where it has none.
+fn label(line: &[u8], c: Cursor) -> Field
+    ensures { λ r. ⌜ seen (now (line .entry)) r ≡ labelIn (tokensLeft (now (line .entry)) (c .at)) ⌝ }
+    ensures { λ r. ⌜ fieldFits 255 r ⌝ }
+{
+    let step = words::next_word(line, c);
+    match step {
+        Step::End => Field::Is(0, c),
+        Step::Read(t, next) => {
+            if is_word(t, words::LABEL) {
+                return number(line, BYTE, next);
+            }
+            Field::Is(0, c)
+        }
+    }
+}
+
 // The end of a line that says r.
 fn last(line: &[u8], r: Line, c: Cursor) -> Line
     ensures { λ s. ⌜ s ≡ lastOf r (tokensLeft (now (line .entry)) (c .at)) ⌝ }
@@ -163,8 +180,17 @@ fn ending(line: &[u8], a: Action, c: Cursor) -> Line
     }
 }
 
-fn action(kind: u8, node: u8, address: u8, ack: u8, hold: u8, header: u32, datum: u32) -> Action
-    ensures { λ r. ⌜ r ≡ recordOf kind node address ack hold header datum ⌝ }
+fn action(
+    kind: u8,
+    node: u8,
+    address: u8,
+    ack: u8,
+    hold: u8,
+    label: u8,
+    header: u32,
+    datum: u32,
+) -> Action
+    ensures { λ r. ⌜ r ≡ recordOf kind node address ack hold label header datum ⌝ }
 {
     Action {
         kind: kind,
@@ -172,7 +198,7 @@ fn action(kind: u8, node: u8, address: u8, ack: u8, hold: u8, header: u32, datum
         address: address,
         ack: ack,
         hold: hold,
-        byte5: 0,
+        label: label,
         byte6: 0,
         byte7: 0,
         header: header,
@@ -209,10 +235,14 @@ fn request(line: &[u8], c: Cursor) -> Line
     let Field::Is(datum, after_datum) = fourth else {
         return Line::Wrong(fault_of(fourth));
     };
+    let fifth = label(line, after_datum);
+    let Field::Is(labelled, after_label) = fifth else {
+        return Line::Wrong(fault_of(fifth));
+    };
     ending(
         line,
-        action(1, node as u8, to as u8, 0, 0, header, datum),
-        after_datum,
+        action(1, node as u8, to as u8, 0, 0, labelled as u8, header, datum),
+        after_label,
     )
 }
 
@@ -224,7 +254,7 @@ fn of_node(line: &[u8], kind: u8, c: Cursor) -> Line
     let Field::Is(node, next) = f else {
         return Line::Wrong(fault_of(f));
     };
-    ending(line, action(kind, node as u8, 0, 0, 0, 0, 0), next)
+    ending(line, action(kind, node as u8, 0, 0, 0, 0, 0, 0), next)
 }
 
 fn respond(line: &[u8], c: Cursor) -> Line
@@ -244,7 +274,7 @@ fn respond(line: &[u8], c: Cursor) -> Line
     };
     ending(
         line,
-        action(3, node as u8, 0, ack as u8, held as u8, 0, 0),
+        action(3, node as u8, 0, ack as u8, held as u8, 0, 0, 0),
         after_hold,
     )
 }
@@ -256,7 +286,7 @@ fn change(line: &[u8], c: Cursor) -> Line
     let Field::Is(to, next) = f else {
         return Line::Wrong(fault_of(f));
     };
-    ending(line, action(7, 0, to as u8, 0, 0, 0, 0), next)
+    ending(line, action(7, 0, to as u8, 0, 0, 0, 0, 0), next)
 }
 
 // An action's line after its first word.
@@ -269,7 +299,7 @@ fn of_kind(line: &[u8], kind: u8, c: Cursor) -> Line
         3 => respond(line, c),
         4 => of_node(line, 4, c),
         7 => change(line, c),
-        _ => ending(line, action(kind, 0, 0, 0, 0, 0, 0), c),
+        _ => ending(line, action(kind, 0, 0, 0, 0, 0, 0, 0), c),
     }
 }
 

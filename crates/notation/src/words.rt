@@ -15,6 +15,8 @@ pub(crate) const HOLD: u8 = 13;
 
 pub(crate) const TIMES: u8 = 14;
 
+pub(crate) const LABEL: u8 = 15;
+
 const LIMIT: u64 = 4294967296;
 
 // A place in a line.
@@ -74,7 +76,7 @@ fn is_same(a: &[u8], b: &[u8]) -> bool
 
 // Whether a word is the name with that place.
 fn is_name(w: &[u8], k: u8) -> bool
-    requires { ⌜ k < 14 ⌝ }
+    requires { ⌜ k < 15 ⌝ }
     ensures { λ r. ⌜ r ≡ same (now (w .entry)) (getD names k []) ⌝ }
 {
     match k {
@@ -91,7 +93,8 @@ fn is_name(w: &[u8], k: u8) -> bool
         10 => is_same(w, b"nodes"),
         11 => is_same(w, b"all"),
         12 => is_same(w, b"hold"),
-        _ => is_same(w, b"*"),
+        13 => is_same(w, b"*"),
+        _ => is_same(w, b"label"),
     }
 }
 
@@ -100,7 +103,7 @@ fn name(w: &[u8]) -> u8
     ensures { λ r. ⌜ r ≡ nameOf (now (w .entry)) ⌝ }
 {
     let mut k: u8 = 0;
-    while k < 14 {
+    while k < 15 {
         if is_name(w, k) {
             return k + 1;
         }

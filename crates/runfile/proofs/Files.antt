@@ -1,19 +1,19 @@
 -- Every list of actions that the writer takes has one file. Assumes nothing.
-use mathlib.Core.Path.{_≡_, refl, ap₂, sym, _∙_}
-use mathlib.Core.Bool.{Bool, true, false, cond, not, _&&_}
+use mathlib.Core.Path.{_≡_, refl, ap₂, sym, _∙_, subst}
+use mathlib.Core.Bool.{true, false, true≢false}
 use mathlib.Core.List.{List, [], _∷_, _++_, append-nil}
 use Prim.Native.Nat.{ℕ, zero, suc, _+_, _*_, _-_, _/_, _%_, _<_, _≤_}
 use native.Mathlib.Omega.{arith}
-use lib.Dec.{ltb}
+use lib.Dec.{eqb, ltb}
 use lib.ListN.{length, take, drop, length-append, length-take, length-drop, take-append-drop}
 use lib.Seq.{take-at, drop-at, take-all, length-take-le}
 use borrow.Author.Tests.{lt-ltb, ltb-true}
-use Rattle.charts.specs.Numbers as N
 use Rattle.charts.specs.Valid.{isSize}
-use Rattle.charts.specs.Records.{isKind, clean, namesNode, namesAddress, isAddress, moveOf, read}
+use Rattle.charts.specs.Records.{read}
 use Rattle.charts.specs.declared.Action.{Action}
 use Rattle.charts.specs.declared.Decoded.{Decoded}
 use Rattle.charts.specs.declared.Decoded.the-variants as D
+use Rattle.charts.proofs.Steps.{Decodes, turned, taken, decodes}
 use Rattle.record.specs.Bytes.{little, bound, Bytes}
 use Rattle.record.proofs.Little.{bytes-append, bytes-little}
 use Rattle.runfile.specs.Block.{zeros, checkSum, usedBytes}
@@ -131,21 +131,11 @@ file-bytes n size (suc k) i l all j =
 
 -- no record is refused by 0
 pub never-zero : (n : ℕ) (a : Action) → read n a ≡ D.Refused 0 → ⊥
-unfolding read
-never-zero n a h =
-    go (not (isKind (a .kind))) (not (clean a)) (namesNode (a .kind) && not (ltb (a .node) n)) (namesAddress (a .kind) && not (isAddress n (a .address)))
-    (not (ltb (a .ack) 16 && ltb (a .hold) 2)) h
+never-zero n a = go (decodes n a)
   where
-    go : (p q r s t : Bool)
-        → cond p (D.Refused N.wrong-kind) (cond q (D.Refused N.stray-field) (cond r (D.Refused N.wrong-node) (cond s (D.Refused N.wrong-address)
-        (cond t (D.Refused N.wrong-answer) (D.Accepted (moveOf a)))))) ≡ D.Refused 0
-        → ⊥
-    go true q r s t e = let z : _≡_ {A = ℕ} 2 0 = cc in omega arith
-    go false true r s t e = let z : _≡_ {A = ℕ} 3 0 = cc in omega arith
-    go false false true s t e = let z : _≡_ {A = ℕ} 4 0 = cc in omega arith
-    go false false false true t e = let z : _≡_ {A = ℕ} 5 0 = cc in omega arith
-    go false false false false true e = let z : _≡_ {A = ℕ} 6 0 = cc in omega arith
-    go false false false false false e = let z : _≡_ {A = ℕ} 0 1 = cc in omega arith
+    go : {d : Decoded} → Decodes n a d → d ≡ D.Refused 0 → ⊥
+    go (turned {k} e) q = let z : k ≡ 0 = cc in true≢false (subst (λ k. eqb k 0 ≡ false) z e)
+    go (taken x) q = let z : _≡_ {A = ℕ} 0 1 = cc in omega arith
 
 -- the parts of a list that the writer takes
 module _ (n : ℕ) where

@@ -22,8 +22,8 @@ word-in-requires-2 c κs = search needs
 kind-of-requires : tie.Need-kind-of-requires
 kind-of-requires c κs = search needs
 
-place-of-requires : tie.Need-place-of-requires
-place-of-requires c κs = search needs
+place-at-requires : tie.Need-place-at-requires
+place-at-requires c κs = search needs
 
 at-span-requires-2 : tie.Need-at-span-requires-2
 at-span-requires-2 c κs = search needs
@@ -37,8 +37,8 @@ word-in-requires-3 c κs = search needs
 kind-of-requires-2 : tie.Need-kind-of-requires-2
 kind-of-requires-2 c κs = search needs
 
-place-of-requires-2 : tie.Need-place-of-requires-2
-place-of-requires-2 c κs = search needs
+place-at-requires-2 : tie.Need-place-at-requires-2
+place-at-requires-2 c κs = search needs
 
 at-span-requires-3 : tie.Need-at-span-requires-3
 at-span-requires-3 c κs = search needs
@@ -49,11 +49,8 @@ enum-told-4 c = search needs
 kind-of-requires-3 : tie.Need-kind-of-requires-3
 kind-of-requires-3 c κs = search needs
 
-words-before-requires : tie.Need-words-before-requires
-words-before-requires c κs = search needs
-
-cast-t19 : tie.Need-cast-t19
-cast-t19 c = search needs
+place-at-requires-3 : tie.Need-place-at-requires-3
+place-at-requires-3 c κs = search needs
 
 nowhere-requires : tie.Need-nowhere-requires
 nowhere-requires c κs = search needs
@@ -124,15 +121,15 @@ returns c = (rw (c .before .before .enum-told .given .1, ← c .before .word-in 
 
 returns-2 : tie.Need-returns-2
 unfolding blameIn
-returns-2 c = (rw (c .before .before .before .before .enum-told2 .given .1, ← c .before .before .before .word-in2 .ensures .0, ← c .before .before .kind-of .ensures, ← c .before .place-of .ensures) (c .at-span2 .ensures), rw (c .at-span2 .ensures) (c .before .before .before .word-in2 .ensures .1))
+returns-2 c = (rw (c .before .before .before .before .enum-told2 .given .1, ← c .before .before .before .word-in2 .ensures .0, ← c .before .before .kind-of .ensures, ← c .before .place-at .ensures) (c .at-span2 .ensures), rw (c .at-span2 .ensures) (c .before .before .before .word-in2 .ensures .1))
 
 returns-3 : tie.Need-returns-3
 unfolding blameIn
-returns-3 c = (rw (c .before .before .before .before .enum-told3 .given .1, ← c .before .before .before .word-in3 .ensures .0, ← c .before .before .kind-of2 .ensures, ← c .before .place-of2 .ensures) (c .at-span3 .ensures), rw (c .at-span3 .ensures) (c .before .before .before .word-in3 .ensures .1))
+returns-3 c = (rw (c .before .before .before .before .enum-told3 .given .1, ← c .before .before .before .word-in3 .ensures .0, ← c .before .before .kind-of2 .ensures, ← c .before .place-at2 .ensures) (c .at-span3 .ensures), rw (c .at-span3 .ensures) (c .before .before .before .word-in3 .ensures .1))
 
 returns-4 : tie.Need-returns-4
 unfolding blameIn
-returns-4 c = (rw (c .before .before .before .enum-told4 .given .1, ← c .before .before .kind-of3 .ensures, ← c .before .words-before .ensures .0) (c .nowhere .ensures), rw (c .nowhere .ensures) ((omega arith, omega arith)))
+returns-4 c = (rw (c .before .before .before .enum-told4 .given .1, ← c .before .before .kind-of3 .ensures, ← c .before .place-at3 .ensures) (c .nowhere .ensures), rw (c .nowhere .ensures) ((omega arith, omega arith)))
 
 returns-5 : tie.Need-returns-5
 unfolding blameIn
@@ -176,17 +173,16 @@ blame-in-spec =
     enum-told-2
     word-in-requires-2
     kind-of-requires
-    place-of-requires
+    place-at-requires
     at-span-requires-2
     enum-told-3
     word-in-requires-3
     kind-of-requires-2
-    place-of-requires-2
+    place-at-requires-2
     at-span-requires-3
     enum-told-4
     kind-of-requires-3
-    words-before-requires
-    cast-t19
+    place-at-requires-3
     nowhere-requires
     enum-told-5
     word-in-requires-4

@@ -29,24 +29,28 @@ returns-4 : tie.Need-returns-4
 unfolding refusalOf
 returns-4 c = simp (c .before .before .before .before .said .given .1, ne-eqb _ _ (c .before .before .if2 .left), ne-eqb _ _ (c .before .if3 .left), eq-eqb _ _ (c .if4 .taken))
 
+returns-5 : tie.Need-returns-5
+unfolding refusalOf
+returns-5 c = simp (c .before .before .before .before .before .said .given .1, ne-eqb _ _ (c .before .before .before .if2 .left), ne-eqb _ _ (c .before .before .if3 .left), ne-eqb _ _ (c .before .if4 .left), eq-eqb _ _ (c .if5 .taken))
+
 enum-told-3 : tie.Need-enum-told-3
 enum-told-3 c = search needs
 
-returns-5 : tie.Need-returns-5
-unfolding refusalOf
-returns-5 c = simp (c .enum-told .given .1)
-
 returns-6 : tie.Need-returns-6
 unfolding refusalOf
-returns-6 c = simp (c .before .enum-told2 .given .1, ne-eqb _ _ (c .if1 .left))
+returns-6 c = simp (c .enum-told .given .1)
 
 returns-7 : tie.Need-returns-7
 unfolding refusalOf
-returns-7 c = simp (c .before .before .before .before .said .given .1, ne-eqb _ _ (c .before .before .if2 .left), ne-eqb _ _ (c .before .if3 .left), ne-eqb _ _ (c .if4 .left))
+returns-7 c = simp (c .before .enum-told2 .given .1, ne-eqb _ _ (c .if1 .left))
 
 returns-8 : tie.Need-returns-8
 unfolding refusalOf
-returns-8 c = simp (c .enum-told3 .given .1)
+returns-8 c = simp (c .before .before .before .before .before .said .given .1, ne-eqb _ _ (c .before .before .before .if2 .left), ne-eqb _ _ (c .before .before .if3 .left), ne-eqb _ _ (c .before .if4 .left), ne-eqb _ _ (c .if5 .left))
+
+returns-9 : tie.Need-returns-9
+unfolding refusalOf
+returns-9 c = simp (c .enum-told3 .given .1)
 
 pub refusal-spec : {M : Type 1} → statement M
 refusal-spec =
@@ -59,8 +63,9 @@ refusal-spec =
     returns-2
     returns-3
     returns-4
-    enum-told-3
     returns-5
+    enum-told-3
     returns-6
     returns-7
-    returns-8)
+    returns-8
+    returns-9)

@@ -88,6 +88,12 @@ slice-aggregate-is-same-14 c = search needs
 is-same-requires-14 : tie.Need-is-same-requires-14
 is-same-requires-14 c κs = search needs
 
+slice-aggregate-is-same-15 : tie.Need-slice-aggregate-is-same-15
+slice-aggregate-is-same-15 c = search needs
+
+is-same-requires-15 : tie.Need-is-same-requires-15
+is-same-requires-15 c κs = search needs
+
 returns : tie.Need-returns
 returns c = simp (c .before .before .match .keys1, c .is-same .ensures)
 
@@ -128,13 +134,16 @@ returns-13 : tie.Need-returns-13
 returns-13 c = simp (c .before .before .match .keys13, c .is-same13 .ensures)
 
 returns-14 : tie.Need-returns-14
-returns-14 c =
+returns-14 c = simp (c .before .before .match .keys14, c .is-same14 .ensures)
+
+returns-15 : tie.Need-returns-15
+returns-15 c =
     let r = c .before .before .match .rest in
     let k = c .before .before .before .before .args .k in
-    let last : 13 ≤ k =
-    above 12 (above 11 (above 10 (above 9 (above 8 (above 7 (above 6 (above 5 (above 4 (above 3 (above 2 (above 1 (above 0 (search needs) (r .0 .0 .0 .0 .0 .0 .0 .0 .0 .0 .0 .0 .1)) (r .0 .0 .0 .0 .0 .0 .0 .0 .0 .0 .0 .1)) (r .0 .0 .0 .0 .0 .0 .0 .0 .0 .0 .1)) (r .0 .0 .0 .0 .0 .0 .0 .0 .0 .1)) (r .0 .0 .0 .0 .0 .0 .0 .0 .1)) (r .0 .0 .0 .0 .0 .0 .0 .1)) (r .0 .0 .0 .0 .0 .0 .1)) (r .0 .0 .0 .0 .0 .1)) (r .0 .0 .0 .0 .1)) (r .0 .0 .0 .1)) (r .0 .0 .1)) (r .0 .1)) (r .1)
+    let last : 14 ≤ k =
+    above 13 (above 12 (above 11 (above 10 (above 9 (above 8 (above 7 (above 6 (above 5 (above 4 (above 3 (above 2 (above 1 (above 0 (search needs) (r .0 .0 .0 .0 .0 .0 .0 .0 .0 .0 .0 .0 .0 .1)) (r .0 .0 .0 .0 .0 .0 .0 .0 .0 .0 .0 .0 .1)) (r .0 .0 .0 .0 .0 .0 .0 .0 .0 .0 .0 .1)) (r .0 .0 .0 .0 .0 .0 .0 .0 .0 .0 .1)) (r .0 .0 .0 .0 .0 .0 .0 .0 .0 .1)) (r .0 .0 .0 .0 .0 .0 .0 .0 .1)) (r .0 .0 .0 .0 .0 .0 .0 .1)) (r .0 .0 .0 .0 .0 .0 .1)) (r .0 .0 .0 .0 .0 .1)) (r .0 .0 .0 .0 .1)) (r .0 .0 .0 .1)) (r .0 .0 .1)) (r .0 .1)) (r .1)
     in
-    rw (only-last last (c .before .before .before .before .pre)) (c .is-same14 .ensures)
+    rw (only-last last (c .before .before .before .before .pre)) (c .is-same15 .ensures)
 
 pub is-name-spec : {M : Type 1} → statement M
 is-name-spec =
@@ -168,6 +177,8 @@ is-name-spec =
     is-same-requires-13
     slice-aggregate-is-same-14
     is-same-requires-14
+    slice-aggregate-is-same-15
+    is-same-requires-15
     returns
     returns-2
     returns-3
@@ -181,4 +192,5 @@ is-name-spec =
     returns-11
     returns-12
     returns-13
-    returns-14)
+    returns-14
+    returns-15)
