@@ -1,4 +1,4 @@
--- Document 01's marked cases A to I and a concatenated response (request 1) as rows of one table: the bytes of a file, and the text that the documents say it prints. (proofs/Cases.antt tests the table.)
+-- Document 01's marked cases A to I, a concatenated response (request 1) and labels (request 3) as rows of one table: the bytes of a file, and the text that the documents say it prints. (proofs/Cases.antt tests the table.)
 use mathlib.Core.List.{List, [], _∷_, _++_}
 use Prim.Native.Nat.{ℕ}
 use lib.ListN.{replicate}
@@ -7,41 +7,41 @@ use Rattle.runfile.specs.File.{fileOf}
 use Rattle.transcript.specs.Text.{ascii}
 
 -- an action record, and those of the kinds that the cases use, with the fields that each kind names
-abbrev recordOf : ℕ → ℕ → ℕ → ℕ → ℕ → ℕ → ℕ → Action
-recordOf kind node address ack hold header datum =
-    record { kind = kind; node = node; address = address; ack = ack; hold = hold; byte5 = 0; byte6 = 0; byte7 = 0; header = header; datum = datum }
+abbrev recordOf : ℕ → ℕ → ℕ → ℕ → ℕ → ℕ → ℕ → ℕ → Action
+recordOf kind node address ack hold label header datum =
+    record { kind = kind; node = node; address = address; ack = ack; hold = hold; label = label; byte6 = 0; byte7 = 0; header = header; datum = datum }
 
-abbrev request : ℕ → ℕ → ℕ → ℕ → Action
-request i to h d = recordOf 1 i to 0 0 h d
+abbrev request : ℕ → ℕ → ℕ → ℕ → ℕ → Action
+request i to label h d = recordOf 1 i to 0 0 label h d
 
 abbrev arbitrate : ℕ → Action
-arbitrate i = recordOf 2 i 0 0 0 0 0
+arbitrate i = recordOf 2 i 0 0 0 0 0 0
 
 abbrev respond : ℕ → ℕ → ℕ → Action
-respond i a hold = recordOf 3 i 0 a hold 0 0
+respond i a hold = recordOf 3 i 0 a hold 0 0 0
 
 abbrev clock : ℕ → Action
-clock i = recordOf 4 i 0 0 0 0 0
+clock i = recordOf 4 i 0 0 0 0 0 0
 
 abbrev pass : Action
-pass = recordOf 5 0 0 0 0 0 0
+pass = recordOf 5 0 0 0 0 0 0 0
 
 abbrev lose : Action
-lose = recordOf 6 0 0 0 0 0 0
+lose = recordOf 6 0 0 0 0 0 0 0
 
 abbrev change : ℕ → Action
-change to = recordOf 7 0 to 0 0 0 0
+change to = recordOf 7 0 to 0 0 0 0 0
 
 abbrev grant : Action
-grant = recordOf 8 0 0 0 0 0 0
+grant = recordOf 8 0 0 0 0 0 0 0
 
 abbrev gap : Action
-gap = recordOf 9 0 0 0 0 0 0
+gap = recordOf 9 0 0 0 0 0 0 0
 
 -- "request 0 to 63 (header 1, data 2), arbitrate 0, six times clock 0 and pass": node 0 of two sends, and this becomes of its Header and of its Data
-abbrev sends : ℕ → ℕ → ℕ → Action → Action → List Action
-sends to h d header datum =
-    request 0 to h d ∷ arbitrate 0 ∷ clock 0 ∷ pass ∷ clock 0 ∷ pass ∷ clock 0 ∷ pass ∷ clock 0 ∷ header ∷ clock 0 ∷ datum ∷ clock 0 ∷ pass ∷ []
+abbrev sends : ℕ → ℕ → ℕ → ℕ → Action → Action → List Action
+sends to label h d header datum =
+    request 0 to label h d ∷ arbitrate 0 ∷ clock 0 ∷ pass ∷ clock 0 ∷ pass ∷ clock 0 ∷ pass ∷ clock 0 ∷ header ∷ clock 0 ∷ datum ∷ clock 0 ∷ pass ∷ []
 
 -- "grant, respond 1 with 1 and hold 0, three times clock 1 and pass […]; two gaps": node 1 answers, and this becomes of its Ack
 abbrev answers : ℕ → Action → List Action
@@ -50,14 +50,14 @@ answers a ack = grant ∷ respond 1 a 0 ∷ clock 1 ∷ pass ∷ clock 1 ∷ ack
 -- F: "n = 3, 0 to 1, node 2's Dest changed to 2 […] both grants"
 abbrev misled : List Action
 misled =
-    request 0 1 5 6 ∷ arbitrate 0 ∷ clock 0 ∷ pass ∷ pass ∷ clock 0 ∷ pass ∷ pass ∷ clock 0 ∷ pass ∷ change 2
+    request 0 1 0 5 6 ∷ arbitrate 0 ∷ clock 0 ∷ pass ∷ pass ∷ clock 0 ∷ pass ∷ pass ∷ clock 0 ∷ pass ∷ change 2
     ∷ clock 0 ∷ pass ∷ pass ∷ clock 0 ∷ pass ∷ pass ∷ clock 0 ∷ pass ∷ pass ∷ grant ∷ grant ∷ []
 
 -- request 1: node 1 acknowledges with hold 1, puts out a filler and replies to node 0, who is granted the bus
 abbrev replies : List Action
 replies =
-    sends 1 5 6 pass pass ++ (grant ∷ respond 1 1 1 ∷ clock 1 ∷ pass ∷ clock 1 ∷ pass ∷ clock 1 ∷ pass ∷ clock 1 ∷ pass
-    ∷ request 1 0 7 8 ∷ clock 1 ∷ pass ∷ clock 1 ∷ pass ∷ clock 1 ∷ pass ∷ clock 1 ∷ pass ∷ clock 1 ∷ pass ∷ clock 1 ∷ pass ∷ grant ∷ [])
+    sends 1 0 5 6 pass pass ++ (grant ∷ respond 1 1 1 ∷ clock 1 ∷ pass ∷ clock 1 ∷ pass ∷ clock 1 ∷ pass ∷ clock 1 ∷ pass
+    ∷ request 1 0 0 7 8 ∷ clock 1 ∷ pass ∷ clock 1 ∷ pass ∷ clock 1 ∷ pass ∷ clock 1 ∷ pass ∷ clock 1 ∷ pass ∷ clock 1 ∷ pass ∷ grant ∷ [])
 
 pub record Row : Type 0 where
   pub file : List ℕ
@@ -65,48 +65,48 @@ pub record Row : Type 0 where
 
 abbrev pub case-A : Row
 case-A = record {
-  file = fileOf 2 (sends 63 1 2 pass pass ++ (gap ∷ gap ∷ []));
-  text = ascii "nodes 2\n0 1 -\n1 2 0 won\n2 4 -\n3 5 -\n4 4 -\n5 5 -\n6 4 -\n7 5 -\n8 4 -\n9 5 -\n10 4 -\n11 5 -\n12 4 0 sent\n13 5 1 broad 1 2\n14 9 -\n15 9 -\ndone 16\n";
+  file = fileOf 2 (sends 63 0 1 2 pass pass ++ (gap ∷ gap ∷ []));
+  text = ascii "nodes 2\n0 1 -\n1 2 0 won\n2 4 -\n3 5 -\n4 4 -\n5 5 -\n6 4 -\n7 5 -\n8 4 -\n9 5 -\n10 4 -\n11 5 -\n12 4 0 sent 0\n13 5 1 broad 1 2 0\n14 9 -\n15 9 -\ndone 16\n";
 }
 
 abbrev pub case-B : Row
 case-B = record {
-  file = fileOf 2 (sends 1 5 6 pass pass ++ answers 1 pass);
-  text = ascii "nodes 2\n0 1 -\n1 2 0 won\n2 4 -\n3 5 -\n4 4 -\n5 5 -\n6 4 -\n7 5 -\n8 4 -\n9 5 -\n10 4 -\n11 5 -\n12 4 -\n13 5 1 good 5 6\n14 8 -\n15 3 -\n16 4 -\n17 5 -\n18 4 -\n19 5 -\n20 4 -\n21 5 0 ack 1\n22 9 -\n23 9 -\ndone 24\n";
+  file = fileOf 2 (sends 1 0 5 6 pass pass ++ answers 1 pass);
+  text = ascii "nodes 2\n0 1 -\n1 2 0 won\n2 4 -\n3 5 -\n4 4 -\n5 5 -\n6 4 -\n7 5 -\n8 4 -\n9 5 -\n10 4 -\n11 5 -\n12 4 -\n13 5 1 good 5 6 0\n14 8 -\n15 3 -\n16 4 -\n17 5 -\n18 4 -\n19 5 -\n20 4 -\n21 5 0 ack 1 0\n22 9 -\n23 9 -\ndone 24\n";
 }
 
 -- "B with change at 11: 13 reports `1 dcrc 5`"
 abbrev pub case-C : Row
 case-C = record {
-  file = fileOf 2 (sends 1 5 6 pass (change 0) ++ answers 1 pass);
-  text = ascii "nodes 2\n0 1 -\n1 2 0 won\n2 4 -\n3 5 -\n4 4 -\n5 5 -\n6 4 -\n7 5 -\n8 4 -\n9 5 -\n10 4 -\n11 7 -\n12 4 -\n13 5 1 dcrc 5\n14 8 -\n15 3 -\n16 4 -\n17 5 -\n18 4 -\n19 5 -\n20 4 -\n21 5 0 ack 1\n22 9 -\n23 9 -\ndone 24\n";
+  file = fileOf 2 (sends 1 0 5 6 pass (change 0) ++ answers 1 pass);
+  text = ascii "nodes 2\n0 1 -\n1 2 0 won\n2 4 -\n3 5 -\n4 4 -\n5 5 -\n6 4 -\n7 5 -\n8 4 -\n9 5 -\n10 4 -\n11 7 -\n12 4 -\n13 5 1 dcrc 5 0\n14 8 -\n15 3 -\n16 4 -\n17 5 -\n18 4 -\n19 5 -\n20 4 -\n21 5 0 ack 1 0\n22 9 -\n23 9 -\ndone 24\n";
 }
 
 -- "B with lose at 9, nothing reported at 13; grant, clock 1, gap: index 16 reports `0 miss`"
 abbrev pub case-D : Row
 case-D = record {
-  file = fileOf 2 (sends 1 5 6 lose pass ++ (grant ∷ clock 1 ∷ gap ∷ []));
-  text = ascii "nodes 2\n0 1 -\n1 2 0 won\n2 4 -\n3 5 -\n4 4 -\n5 5 -\n6 4 -\n7 5 -\n8 4 -\n9 6 -\n10 4 -\n11 5 -\n12 4 -\n13 5 -\n14 8 -\n15 4 -\n16 9 0 miss\ndone 17\n";
+  file = fileOf 2 (sends 1 0 5 6 lose pass ++ (grant ∷ clock 1 ∷ gap ∷ []));
+  text = ascii "nodes 2\n0 1 -\n1 2 0 won\n2 4 -\n3 5 -\n4 4 -\n5 5 -\n6 4 -\n7 5 -\n8 4 -\n9 6 -\n10 4 -\n11 5 -\n12 4 -\n13 5 -\n14 8 -\n15 4 -\n16 9 0 miss 0\ndone 17\n";
 }
 
 -- "B with lose at 19: 21 reports `0 miss`"
 abbrev pub case-E : Row
 case-E = record {
-  file = fileOf 2 (sends 1 5 6 pass pass ++ answers 1 lose);
-  text = ascii "nodes 2\n0 1 -\n1 2 0 won\n2 4 -\n3 5 -\n4 4 -\n5 5 -\n6 4 -\n7 5 -\n8 4 -\n9 5 -\n10 4 -\n11 5 -\n12 4 -\n13 5 1 good 5 6\n14 8 -\n15 3 -\n16 4 -\n17 5 -\n18 4 -\n19 6 -\n20 4 -\n21 5 0 miss\n22 9 -\n23 9 -\ndone 24\n";
+  file = fileOf 2 (sends 1 0 5 6 pass pass ++ answers 1 lose);
+  text = ascii "nodes 2\n0 1 -\n1 2 0 won\n2 4 -\n3 5 -\n4 4 -\n5 5 -\n6 4 -\n7 5 -\n8 4 -\n9 5 -\n10 4 -\n11 5 -\n12 4 -\n13 5 1 good 5 6 0\n14 8 -\n15 3 -\n16 4 -\n17 5 -\n18 4 -\n19 6 -\n20 4 -\n21 5 0 miss 0\n22 9 -\n23 9 -\ndone 24\n";
 }
 
 -- "after both grants clock 1 is refused 7 until clock 2": the refusal ends a run, so these are two runs
 abbrev pub case-F-refused : Row
 case-F-refused = record {
   file = fileOf 3 (misled ++ (clock 1 ∷ []));
-  text = ascii "nodes 3\n0 1 -\n1 2 0 won\n2 4 -\n3 5 -\n4 5 -\n5 4 -\n6 5 -\n7 5 -\n8 4 -\n9 5 -\n10 7 -\n11 4 -\n12 5 -\n13 5 -\n14 4 -\n15 5 -\n16 5 -\n17 4 -\n18 5 1 good 5 6\n19 5 -\n20 8 -\n21 8 -\nrefused 22 7\n";
+  text = ascii "nodes 3\n0 1 -\n1 2 0 won\n2 4 -\n3 5 -\n4 5 -\n5 4 -\n6 5 -\n7 5 -\n8 4 -\n9 5 -\n10 7 -\n11 4 -\n12 5 -\n13 5 -\n14 4 -\n15 5 -\n16 5 -\n17 4 -\n18 5 1 good 5 6 0\n19 5 -\n20 8 -\n21 8 -\nrefused 22 7\n";
 }
 
 abbrev pub case-F-taken : Row
 case-F-taken = record {
   file = fileOf 3 (misled ++ (clock 2 ∷ clock 1 ∷ []));
-  text = ascii "nodes 3\n0 1 -\n1 2 0 won\n2 4 -\n3 5 -\n4 5 -\n5 4 -\n6 5 -\n7 5 -\n8 4 -\n9 5 -\n10 7 -\n11 4 -\n12 5 -\n13 5 -\n14 4 -\n15 5 -\n16 5 -\n17 4 -\n18 5 1 good 5 6\n19 5 -\n20 8 -\n21 8 -\n22 4 -\n23 4 -\ndone 24\n";
+  text = ascii "nodes 3\n0 1 -\n1 2 0 won\n2 4 -\n3 5 -\n4 5 -\n5 4 -\n6 5 -\n7 5 -\n8 4 -\n9 5 -\n10 7 -\n11 4 -\n12 5 -\n13 5 -\n14 4 -\n15 5 -\n16 5 -\n17 4 -\n18 5 1 good 5 6 0\n19 5 -\n20 8 -\n21 8 -\n22 4 -\n23 4 -\ndone 24\n";
 }
 
 abbrev pub case-G : Row
@@ -124,55 +124,93 @@ case-H = record {
 -- "n = 1 refused, 2 and 63 taken, 64 refused; acknowledgement 15 taken, 16 refused"
 abbrev pub case-I-1 : Row
 case-I-1 = record {
-  file = fileOf 1 (request 0 0 0 0 ∷ []);
+  file = fileOf 1 (request 0 0 0 0 0 ∷ []);
   text = ascii "refused 0 1\n";
 }
 
 abbrev pub case-I-2 : Row
 case-I-2 = record {
-  file = fileOf 2 (request 0 1 0 0 ∷ []);
+  file = fileOf 2 (request 0 1 0 0 0 ∷ []);
   text = ascii "nodes 2\n0 1 -\ndone 1\n";
 }
 
 abbrev pub case-I-63 : Row
 case-I-63 = record {
-  file = fileOf 63 (request 62 61 0 0 ∷ []);
+  file = fileOf 63 (request 62 61 0 0 0 ∷ []);
   text = ascii "nodes 63\n0 1 -\ndone 1\n";
 }
 
 abbrev pub case-I-64 : Row
 case-I-64 = record {
-  file = fileOf 64 (request 0 1 0 0 ∷ []);
+  file = fileOf 64 (request 0 1 0 0 0 ∷ []);
   text = ascii "refused 0 1\n";
 }
 
 abbrev pub case-I-15 : Row
 case-I-15 = record {
-  file = fileOf 2 (sends 1 5 6 pass pass ++ answers 15 pass);
-  text = ascii "nodes 2\n0 1 -\n1 2 0 won\n2 4 -\n3 5 -\n4 4 -\n5 5 -\n6 4 -\n7 5 -\n8 4 -\n9 5 -\n10 4 -\n11 5 -\n12 4 -\n13 5 1 good 5 6\n14 8 -\n15 3 -\n16 4 -\n17 5 -\n18 4 -\n19 5 -\n20 4 -\n21 5 0 ack 15\n22 9 -\n23 9 -\ndone 24\n";
+  file = fileOf 2 (sends 1 0 5 6 pass pass ++ answers 15 pass);
+  text = ascii "nodes 2\n0 1 -\n1 2 0 won\n2 4 -\n3 5 -\n4 4 -\n5 5 -\n6 4 -\n7 5 -\n8 4 -\n9 5 -\n10 4 -\n11 5 -\n12 4 -\n13 5 1 good 5 6 0\n14 8 -\n15 3 -\n16 4 -\n17 5 -\n18 4 -\n19 5 -\n20 4 -\n21 5 0 ack 15 0\n22 9 -\n23 9 -\ndone 24\n";
 }
 
 abbrev pub case-I-16 : Row
 case-I-16 = record {
-  file = fileOf 2 (sends 1 5 6 pass pass ++ answers 16 pass);
-  text = ascii "nodes 2\n0 1 -\n1 2 0 won\n2 4 -\n3 5 -\n4 4 -\n5 5 -\n6 4 -\n7 5 -\n8 4 -\n9 5 -\n10 4 -\n11 5 -\n12 4 -\n13 5 1 good 5 6\n14 8 -\nrefused 15 6\n";
+  file = fileOf 2 (sends 1 0 5 6 pass pass ++ answers 16 pass);
+  text = ascii "nodes 2\n0 1 -\n1 2 0 won\n2 4 -\n3 5 -\n4 4 -\n5 5 -\n6 4 -\n7 5 -\n8 4 -\n9 5 -\n10 4 -\n11 5 -\n12 4 -\n13 5 1 good 5 6 0\n14 8 -\nrefused 15 6\n";
 }
 
 -- "a concatenated response in IEEE 1394 is meant to be received": node 0 hears the reply through the filler and acknowledges it
 abbrev pub case-reply : Row
 case-reply = record {
   file = fileOf 2 (replies ++ (respond 0 2 0 ∷ clock 0 ∷ pass ∷ clock 0 ∷ pass ∷ clock 0 ∷ pass ∷ gap ∷ gap ∷ []));
-  text = ascii "nodes 2\n0 1 -\n1 2 0 won\n2 4 -\n3 5 -\n4 4 -\n5 5 -\n6 4 -\n7 5 -\n8 4 -\n9 5 -\n10 4 -\n11 5 -\n12 4 -\n13 5 1 good 5 6\n14 8 -\n15 3 -\n16 4 -\n17 5 -\n18 4 -\n19 5 -\n20 4 -\n21 5 0 ack 1\n22 4 -\n23 5 -\n24 1 -\n25 4 -\n26 5 -\n27 4 -\n28 5 -\n29 4 -\n30 5 -\n31 4 -\n32 5 -\n33 4 -\n34 5 -\n35 4 -\n36 5 0 good 7 8\n37 8 -\n38 3 -\n39 4 -\n40 5 -\n41 4 -\n42 5 -\n43 4 -\n44 5 1 ack 2\n45 9 -\n46 9 -\ndone 47\n";
+  text = ascii "nodes 2\n0 1 -\n1 2 0 won\n2 4 -\n3 5 -\n4 4 -\n5 5 -\n6 4 -\n7 5 -\n8 4 -\n9 5 -\n10 4 -\n11 5 -\n12 4 -\n13 5 1 good 5 6 0\n14 8 -\n15 3 -\n16 4 -\n17 5 -\n18 4 -\n19 5 -\n20 4 -\n21 5 0 ack 1 0\n22 4 -\n23 5 -\n24 1 -\n25 4 -\n26 5 -\n27 4 -\n28 5 -\n29 4 -\n30 5 -\n31 4 -\n32 5 -\n33 4 -\n34 5 -\n35 4 -\n36 5 0 good 7 8 0\n37 8 -\n38 3 -\n39 4 -\n40 5 -\n41 4 -\n42 5 -\n43 4 -\n44 5 1 ack 2 0\n45 9 -\n46 9 -\ndone 47\n";
 }
 
 -- "While it is set, respond with hold 1 is not open"
 abbrev pub case-reply-held : Row
 case-reply-held = record {
   file = fileOf 2 (replies ++ (respond 0 2 1 ∷ []));
-  text = ascii "nodes 2\n0 1 -\n1 2 0 won\n2 4 -\n3 5 -\n4 4 -\n5 5 -\n6 4 -\n7 5 -\n8 4 -\n9 5 -\n10 4 -\n11 5 -\n12 4 -\n13 5 1 good 5 6\n14 8 -\n15 3 -\n16 4 -\n17 5 -\n18 4 -\n19 5 -\n20 4 -\n21 5 0 ack 1\n22 4 -\n23 5 -\n24 1 -\n25 4 -\n26 5 -\n27 4 -\n28 5 -\n29 4 -\n30 5 -\n31 4 -\n32 5 -\n33 4 -\n34 5 -\n35 4 -\n36 5 0 good 7 8\n37 8 -\nrefused 38 7\n";
+  text = ascii "nodes 2\n0 1 -\n1 2 0 won\n2 4 -\n3 5 -\n4 4 -\n5 5 -\n6 4 -\n7 5 -\n8 4 -\n9 5 -\n10 4 -\n11 5 -\n12 4 -\n13 5 1 good 5 6 0\n14 8 -\n15 3 -\n16 4 -\n17 5 -\n18 4 -\n19 5 -\n20 4 -\n21 5 0 ack 1 0\n22 4 -\n23 5 -\n24 1 -\n25 4 -\n26 5 -\n27 4 -\n28 5 -\n29 4 -\n30 5 -\n31 4 -\n32 5 -\n33 4 -\n34 5 -\n35 4 -\n36 5 0 good 7 8 0\n37 8 -\nrefused 38 7\n";
+}
+
+-- request 3: "The reports sent, ack, miss, good, dcrc and broad end with" the label: A, B, C and E with one
+abbrev pub case-label-A : Row
+case-label-A = record {
+  file = fileOf 2 (sends 63 5 1 2 pass pass ++ (gap ∷ gap ∷ []));
+  text = ascii "nodes 2\n0 1 -\n1 2 0 won\n2 4 -\n3 5 -\n4 4 -\n5 5 -\n6 4 -\n7 5 -\n8 4 -\n9 5 -\n10 4 -\n11 5 -\n12 4 0 sent 5\n13 5 1 broad 1 2 5\n14 9 -\n15 9 -\ndone 16\n";
+}
+
+abbrev pub case-label-B : Row
+case-label-B = record {
+  file = fileOf 2 (sends 1 7 5 6 pass pass ++ answers 1 pass);
+  text = ascii "nodes 2\n0 1 -\n1 2 0 won\n2 4 -\n3 5 -\n4 4 -\n5 5 -\n6 4 -\n7 5 -\n8 4 -\n9 5 -\n10 4 -\n11 5 -\n12 4 -\n13 5 1 good 5 6 7\n14 8 -\n15 3 -\n16 4 -\n17 5 -\n18 4 -\n19 5 -\n20 4 -\n21 5 0 ack 1 7\n22 9 -\n23 9 -\ndone 24\n";
+}
+
+abbrev pub case-label-C : Row
+case-label-C = record {
+  file = fileOf 2 (sends 1 62 5 6 pass (change 0) ++ answers 1 pass);
+  text = ascii "nodes 2\n0 1 -\n1 2 0 won\n2 4 -\n3 5 -\n4 4 -\n5 5 -\n6 4 -\n7 5 -\n8 4 -\n9 5 -\n10 4 -\n11 7 -\n12 4 -\n13 5 1 dcrc 5 62\n14 8 -\n15 3 -\n16 4 -\n17 5 -\n18 4 -\n19 5 -\n20 4 -\n21 5 0 ack 1 62\n22 9 -\n23 9 -\ndone 24\n";
+}
+
+abbrev pub case-label-E : Row
+case-label-E = record {
+  file = fileOf 2 (sends 1 63 5 6 pass pass ++ answers 1 lose);
+  text = ascii "nodes 2\n0 1 -\n1 2 0 won\n2 4 -\n3 5 -\n4 4 -\n5 5 -\n6 4 -\n7 5 -\n8 4 -\n9 5 -\n10 4 -\n11 5 -\n12 4 -\n13 5 1 good 5 6 63\n14 8 -\n15 3 -\n16 4 -\n17 5 -\n18 4 -\n19 6 -\n20 4 -\n21 5 0 miss 63\n22 9 -\n23 9 -\ndone 24\n";
+}
+
+-- "13, label over 63": 63 taken, 64 refused
+abbrev pub case-label-63 : Row
+case-label-63 = record {
+  file = fileOf 2 (request 0 1 63 0 0 ∷ []);
+  text = ascii "nodes 2\n0 1 -\ndone 1\n";
+}
+
+abbrev pub case-label-64 : Row
+case-label-64 = record {
+  file = fileOf 2 (request 0 1 64 0 0 ∷ []);
+  text = ascii "nodes 2\nrefused 0 13\n";
 }
 
 abbrev pub cases : List Row
 cases =
     case-A ∷ case-B ∷ case-C ∷ case-D ∷ case-E ∷ case-F-refused ∷ case-F-taken ∷ case-G ∷ case-H ∷ case-I-1 ∷ case-I-2 ∷ case-I-63 ∷ case-I-64 ∷ case-I-15 ∷ case-I-16
-    ∷ case-reply ∷ case-reply-held ∷ []
+    ∷ case-reply ∷ case-reply-held ∷ case-label-A ∷ case-label-B ∷ case-label-C ∷ case-label-E ∷ case-label-63 ∷ case-label-64 ∷ []
