@@ -29,17 +29,14 @@ namesAnswer k = eqb k 3
 abbrev pub namesPacket : ℕ → Bool
 namesPacket k = eqb k 1
 
--- "Fields that a kind doesn't name are 0"
-abbrev pub zeroUnless : Bool → ℕ → Bool
-zeroUnless named x = named || eqb x 0
-
--- no "field that the kind doesn't name, or one of the record's two zeros, is not 0"
+-- "Fields that a kind doesn't name are 0": no "field that the kind doesn't name, or one of the record's […] zeros, is not 0" (two zeros, since byte 5 is the label)
 unfoldable pub clean : Action → Bool
 clean a =
     eqb (a .byte6) 0 && (eqb (a .byte7) 0
-    && (zeroUnless (namesNode (a .kind)) (a .node) && (zeroUnless (namesAddress (a .kind)) (a .address)
-    && (zeroUnless (namesAnswer (a .kind)) (a .ack) && (zeroUnless (namesAnswer (a .kind)) (a .hold)
-    && (zeroUnless (namesPacket (a .kind)) (a .label) && (zeroUnless (namesPacket (a .kind)) (a .header) && zeroUnless (namesPacket (a .kind)) (a .datum))))))))
+    && ((namesNode (a .kind) || eqb (a .node) 0)
+    && ((namesAddress (a .kind) || eqb (a .address) 0)
+    && ((namesAnswer (a .kind) || (eqb (a .ack) 0 && eqb (a .hold) 0))
+    && (namesPacket (a .kind) || (eqb (a .label) 0 && (eqb (a .header) 0 && eqb (a .datum) 0)))))))
 
 -- an address "below n" or 63
 abbrev pub isAddress : ℕ → ℕ → Bool

@@ -1,6 +1,6 @@
 -- An action's printed line is read as that action. Assumes nothing.
 use mathlib.Core.Path.{_≡_, refl, ap, _∙_}
-use mathlib.Core.Bool.{Bool, true, false, cond, _&&_, not}
+use mathlib.Core.Bool.{Bool, true, false, cond, _&&_, _||_, not}
 use mathlib.Core.List.{List, [], _∷_}
 use Prim.Native.Nat.{ℕ, zero, suc, _<_, _≤_}
 use native.Mathlib.Omega.{arith}
@@ -12,7 +12,7 @@ use Rattle.charts.specs.Signals.{everybody}
 use Rattle.charts.specs.declared.Action.{Action}
 use Rattle.charts.specs.declared.Move.{Move}
 use Rattle.charts.specs.declared.Decoded.the-variants as D
-use Rattle.charts.specs.Records.{isKind, namesNode, namesAddress, namesAnswer, namesPacket, zeroUnless, clean, isAddress, isLabel, moveOf, read}
+use Rattle.charts.specs.Records.{isKind, namesNode, namesAddress, namesAnswer, namesPacket, clean, isAddress, isLabel, moveOf, read}
 use Rattle.record.specs.Layout.{Fits}
 use Rattle.runfile.proofs.Loops.{and-left, and-right}
 use Rattle.transcript.specs.Text.{ascii, decimal}
@@ -59,9 +59,9 @@ shown n a m h =
     go true false r s u t ep eq et e = absurd (let z : _≡_ {A = ℕ} 0 1 = cc in omega arith)
     go false q r s u t ep eq et e = absurd (let z : _≡_ {A = ℕ} 0 1 = cc in omega arith)
 
-or-zero : (b : Bool) (x : ℕ) → zeroUnless b x ≡ true → b ≡ false → x ≡ 0
-or-zero true x h e = absurd (let z : _≡_ {A = ℕ} 0 1 = cc in omega arith)
-or-zero false x h e = eqb-true x 0 h
+named-or : (b p : Bool) → (b || p) ≡ true → b ≡ false → p ≡ true
+named-or true p h e = absurd (let z : _≡_ {A = ℕ} 0 1 = cc in omega arith)
+named-or false p h e = h
 
 -- the fields that a clean record's kind doesn't name are 0
 record Zeros (a : Action) : Type 0 where
@@ -81,21 +81,20 @@ zeros a h =
     let k : ℕ = a .kind in
     let r6 = and-right (eqb (a .byte6) 0) _ h in
     let r7 = and-right (eqb (a .byte7) 0) _ r6 in
-    let rn = and-right (zeroUnless (namesNode k) (a .node)) _ r7 in
-    let ra = and-right (zeroUnless (namesAddress k) (a .address)) _ rn in
-    let rk = and-right (zeroUnless (namesAnswer k) (a .ack)) _ ra in
-    let rh = and-right (zeroUnless (namesAnswer k) (a .hold)) _ rk in
-    let rl = and-right (zeroUnless (namesPacket k) (a .label)) _ rh in
+    let rn = and-right (namesNode k || eqb (a .node) 0) _ r7 in
+    let ra = and-right (namesAddress k || eqb (a .address) 0) _ rn in
+    let answer = named-or (namesAnswer k) (eqb (a .ack) 0 && eqb (a .hold) 0) (and-left (namesAnswer k || (eqb (a .ack) 0 && eqb (a .hold) 0)) _ ra) in
+    let packet = named-or (namesPacket k) (eqb (a .label) 0 && (eqb (a .header) 0 && eqb (a .datum) 0)) (and-right (namesAnswer k || (eqb (a .ack) 0 && eqb (a .hold) 0)) _ ra) in
     record {
       six = eqb-true (a .byte6) 0 (and-left (eqb (a .byte6) 0) _ h);
       seven = eqb-true (a .byte7) 0 (and-left (eqb (a .byte7) 0) _ r6);
-      node = or-zero (namesNode k) (a .node) (and-left (zeroUnless (namesNode k) (a .node)) _ r7);
-      address = or-zero (namesAddress k) (a .address) (and-left (zeroUnless (namesAddress k) (a .address)) _ rn);
-      ack = or-zero (namesAnswer k) (a .ack) (and-left (zeroUnless (namesAnswer k) (a .ack)) _ ra);
-      hold = or-zero (namesAnswer k) (a .hold) (and-left (zeroUnless (namesAnswer k) (a .hold)) _ rk);
-      label = or-zero (namesPacket k) (a .label) (and-left (zeroUnless (namesPacket k) (a .label)) _ rh);
-      header = or-zero (namesPacket k) (a .header) (and-left (zeroUnless (namesPacket k) (a .header)) _ rl);
-      datum = or-zero (namesPacket k) (a .datum) (and-right (zeroUnless (namesPacket k) (a .header)) _ rl);
+      node = λ e. eqb-true (a .node) 0 (named-or (namesNode k) _ (and-left (namesNode k || eqb (a .node) 0) _ r7) e);
+      address = λ e. eqb-true (a .address) 0 (named-or (namesAddress k) _ (and-left (namesAddress k || eqb (a .address) 0) _ rn) e);
+      ack = λ e. eqb-true (a .ack) 0 (and-left (eqb (a .ack) 0) _ (answer e));
+      hold = λ e. eqb-true (a .hold) 0 (and-right (eqb (a .ack) 0) _ (answer e));
+      label = λ e. eqb-true (a .label) 0 (and-left (eqb (a .label) 0) _ (packet e));
+      header = λ e. eqb-true (a .header) 0 (and-left (eqb (a .header) 0) _ (and-right (eqb (a .label) 0) _ (packet e)));
+      datum = λ e. eqb-true (a .datum) 0 (and-right (eqb (a .header) 0) _ (and-right (eqb (a .label) 0) _ (packet e)));
     }
 
 -- the names as they are read

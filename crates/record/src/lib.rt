@@ -5,7 +5,7 @@ ghost use mathlib.Core.List.{[], _∷_};
 ghost use Prim.Native.Nat.{_+_, _<_, _≤_};
 ghost use lib.ListN.{length};
 ghost use lib.Seq.{sets};
-ghost use Rattle.charts.specs.Records.{isKind, namesAddress, zeroUnless, clean, isAddress, isLabel, moveOf, read};
+ghost use Rattle.charts.specs.Records.{isKind, namesAddress, clean, isAddress, isLabel, moveOf, read};
 ghost use Rattle.record.specs.Bytes.{little, value, hasRoom, putAt};
 ghost use Rattle.record.specs.Layout.{bytesOf, actionAt};
 ghost use Rattle.record.specs.Looked.{numberOf};
@@ -60,27 +60,19 @@ fn names_address(kind: u8) -> bool
     either(kind == 1, kind == 7)
 }
 
-fn zero_unless(named: bool, x: u32) -> bool
-    ensures { λ r. ⌜ r ≡ zeroUnless named x ⌝ }
-{
-    either(named, x == 0)
-}
-
 // Whether the fields that the kind doesn't name, and the record's two zeros, are 0; else it is 3.
 fn is_clean(a: Action) -> bool
     ensures { λ r. ⌜ r ≡ clean a ⌝ }
 {
     let kind = a.kind;
-    let node = zero_unless(kind < 5, wide(a.node));
-    let address = zero_unless(names_address(kind), wide(a.address));
-    let ack = zero_unless(kind == 3, wide(a.ack));
-    let hold = zero_unless(kind == 3, wide(a.hold));
-    let label = zero_unless(kind == 1, wide(a.label));
-    let header = zero_unless(kind == 1, a.header);
-    let datum = zero_unless(kind == 1, a.datum);
-    let packet = both(label, both(header, datum));
-    let answer = both(ack, both(hold, packet));
-    let fields = both(node, both(address, answer));
+    let node = either(kind < 5, a.node == 0);
+    let address = either(names_address(kind), a.address == 0);
+    let answer = either(kind == 3, both(a.ack == 0, a.hold == 0));
+    let packet = either(
+        kind == 1,
+        both(a.label == 0, both(a.header == 0, a.datum == 0)),
+    );
+    let fields = both(node, both(address, both(answer, packet)));
     both(a.byte6 == 0, both(a.byte7 == 0, fields))
 }
 

@@ -44,6 +44,19 @@ decimal-hundreds n h =
 pub hundreds-longer : (n : ℕ) → 100 ≤ n → length (decimal n) ≡ length (decimal (n / 100)) + 2
 hundreds-longer n h = ap length (decimal-hundreds n h) ∙ length-append (decimal (n / 100)) (digit (n % 100 / 10) ++ digit (n % 100 % 10))
 
+-- four digits apart, by two and two
+pub decimal-ten-thousands : (n : ℕ) → 10000 ≤ n
+    → decimal n ≡ decimal (n / 10000) ++ ((digit (n % 10000 / 100 / 10) ++ digit (n % 10000 / 100 % 10)) ++ (digit (n % 10000 % 100 / 10) ++ digit (n % 10000 % 100 % 10)))
+decimal-ten-thousands n h =
+    let a : n / 100 / 100 ≡ n / 10000 = omega arith in
+    let b : n / 100 % 100 ≡ n % 10000 / 100 = omega arith in
+    let c : n % 100 ≡ n % 10000 % 100 = omega arith in
+    rw (decimal-hundreds n (omega arith), decimal-hundreds (n / 100) (omega arith), a, b, c)
+    (append-assoc (decimal (n / 10000)) (digit (n % 10000 / 100 / 10) ++ digit (n % 10000 / 100 % 10)) (digit (n % 10000 % 100 / 10) ++ digit (n % 10000 % 100 % 10)))
+
+pub ten-thousands-longer : (n : ℕ) → 10000 ≤ n → length (decimal n) ≡ length (decimal (n / 10000)) + 4
+ten-thousands-longer n h = ap length (decimal-ten-thousands n h) ∙ length-append (decimal (n / 10000)) _
+
 -- a number below 10 ^ k has at most k digits, k from 1 on
 short-by : (k n : ℕ) (b : Bool) → ltb n 10 ≡ b → (10 ≤ n → length (decimal (n / 10)) ≤ k) → length (decimal n) ≤ suc k
 short-by k n true e h = rw (decimal-small n (ltb-true n 10 e)) (omega arith)

@@ -52,15 +52,31 @@ fn put_small(buf: &mut [u8], at: usize, x: u8) -> usize
     put_pair(buf, at, x)
 }
 
-fn put_decimal(buf: &mut [u8], at: usize, x: u64) -> usize
+// A number below 10,000.
+fn put_four(buf: &mut [u8], at: usize, x: u64) -> usize
+    requires { ⌜ x < 10000 ⌝ }
     requires { ⌜ at + length (decimal x) ≤ length (now buf) ⌝ }
     ensures { λ r. ⌜ Puts (now (buf .entry)) at (decimal x) r (now (buf .exit)) ⌝ }
 {
     if x < 100 {
         return put_small(buf, at, x as u8);
     }
-    let last = put_decimal(buf, at, x / 100);
+    let last = put_small(buf, at, (x / 100) as u8);
     put_pair(buf, last, (x % 100) as u8)
+}
+
+// Four digits a call: an index has few.
+fn put_decimal(buf: &mut [u8], at: usize, x: u64) -> usize
+    requires { ⌜ at + length (decimal x) ≤ length (now buf) ⌝ }
+    ensures { λ r. ⌜ Puts (now (buf .entry)) at (decimal x) r (now (buf .exit)) ⌝ }
+{
+    if x < 10000 {
+        return put_four(buf, at, x);
+    }
+    let last = put_decimal(buf, at, x / 10000);
+    let rest = x % 10000;
+    let next = put_pair(buf, last, (rest / 100) as u8);
+    put_pair(buf, next, (rest % 100) as u8)
 }
 
 pub(crate) fn put_u8(buf: &mut [u8], at: usize, x: u8) -> usize
