@@ -3,14 +3,16 @@
 mod action;
 mod marks;
 mod node;
+mod packet;
 mod refusal;
 mod report;
 mod signal;
 mod validity;
 
-pub use action::{is_address, Action, Record};
+pub use action::{Action, Record};
 pub use marks::Marks;
-pub use node::{Effect, Mode, Node, Packet, ALL_NODES};
+pub use node::{Effect, Mode, Node};
+pub use packet::{is_address, is_label, Head, Packet, ALL_NODES};
 pub use refusal::Refusal;
 pub use report::{Report, Reported};
 pub use signal::{Check, Signal};
@@ -69,8 +71,8 @@ impl Bus {
         }
     }
 
-    /// One step on a state handed in: "A step looks at 12, then 2 to 7." A refused one changes
-    /// nothing.
+    /// One step on a state handed in: "A step looks at 12, then 2 to 7", with 13 after 5. A refused
+    /// one changes nothing.
     pub fn step(&mut self, record: &Record) -> Outcome {
         if !self.is_state() {
             return Err(Refusal::State);
@@ -78,7 +80,7 @@ impl Bus {
         self.play(record)
     }
 
-    /// The same for a bus that came from `fresh` and so is a state: 2 to 7 alone.
+    /// The same for a bus that came from `fresh` and so is a state: without 12.
     pub fn play(&mut self, record: &Record) -> Outcome {
         let action = record.look(self.n)?;
         self.act(action)
@@ -172,11 +174,12 @@ impl Bus {
                     0 => (Signal::Start, next),
                     1 => (Signal::Dhead, next),
                     2 => (Signal::Dest(sending.address), next),
-                    3 => (Signal::Header(sending.header, Check::Good), next),
+                    3 => (Signal::Header(sending.head, Check::Good), next),
                     4 => (Signal::Data(sending.data, Check::Good), next),
                     // "After End: address 63: report sent, Rest; else AwaitAck."
                     _ if sending.address == ALL_NODES => {
-                        report = Some(Reported { node, report: Report::Sent });
+                        let label = sending.head.label;
+                        report = Some(Reported { node, report: Report::Sent { label } });
                         (Signal::End, Mode::Rest)
                     }
                     _ => (Signal::End, Mode::AwaitAck),
@@ -283,7 +286,7 @@ impl Bus {
 
     fn receive(&mut self, node: u8, signal: Signal) -> Option<Reported> {
         let record = self.node_mut(node);
-        let (mode, effect) = record.mode.receive(node, signal);
+        let (mode, effect) = record.receive(node, signal);
         record.mode = mode;
         match effect {
             Effect::Nothing => None,

@@ -1,9 +1,10 @@
 //! The model written apart: an independent reference model of the IEEE 1394 rehearsal bench,
-//! written from document 01, requests 1 and 2 of document 02 and the readings of them, and from
+//! written from document 01, requests 1 to 3 of document 02 and the readings of them, and from
 //! nothing else.
 //!
 //! The model itself:
-//! - [`bus`]: signals, node modes, the reception charts, the ten actions, refusals 2 to 7 and 12;
+//! - [`bus`]: packets, signals, node modes, the reception charts, the ten actions, refusals 2 to 7,
+//!   12 and 13;
 //! - [`table`]: the reception charts as one table, printed;
 //! - [`runfile`]: blocks of 512 bytes, read and written;
 //! - [`transcript`]: the printed text;

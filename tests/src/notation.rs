@@ -7,7 +7,7 @@
 use std::fmt;
 use std::io::{self, BufRead, Read, Write};
 
-use crate::bus::{Action, Record, Refusal, ALL_NODES};
+use crate::bus::{Action, Head, Packet, Record, Refusal, ALL_NODES};
 use crate::runfile::{self, Reader, BLOCK, FULL};
 use crate::transcript;
 
@@ -231,7 +231,7 @@ impl<'a> Fields<'a> {
         })
     }
 
-    /// A node, an acknowledgement, n.
+    /// A node, a label, an acknowledgement, n.
     fn byte(&mut self, field: &str) -> Result<u8, Flaw> {
         self.number(field, u8::MAX)
     }
@@ -249,6 +249,14 @@ impl<'a> Fields<'a> {
         self.byte(field)
     }
 
+    /// `label L`, or 0.
+    fn label(&mut self, field: &str) -> Result<u8, Flaw> {
+        match self.take_if(b"label") {
+            true => self.byte(field),
+            false => Ok(0),
+        }
+    }
+
     /// The fields of the action with this name.
     fn action(&mut self, name: &[u8]) -> Result<Record, Flaw> {
         let of = |kind| Record { kind, ..Record::default() };
@@ -258,6 +266,7 @@ impl<'a> Fields<'a> {
                 address: self.address("the address of request")?,
                 header: self.word("the header of request")?,
                 data: self.word("the data of request")?,
+                label: self.label("the label of request")?,
                 ..of(1)
             },
             b"arbitrate" => Record { node: self.byte("the node of arbitrate")?, ..of(2) },
@@ -356,11 +365,12 @@ impl Text {
 
 /// Which field of a record is refused, and what it may be.
 fn why_none(refusal: Refusal, record: &Record, n: u8) -> String {
-    let Record { node, address, ack, .. } = record;
+    let Record { node, address, label, ack, .. } = record;
     let last = n - 1;
     match refusal {
         Refusal::Node => format!("no node {node}, nodes are 0 to {last}"),
         Refusal::Address => format!("no address {address}, addresses are 0 to {last} and all"),
+        Refusal::Label => format!("no label {label}, labels are 0 to 63"),
         Refusal::AckOrHold => format!("no acknowledgement {ack}, they are 0 to 15"),
         _ => unreachable!("a line has only the fields that its action names"),
     }
@@ -506,15 +516,21 @@ pub fn lines(text: &[u8]) -> (Vec<u8>, Result<(), Complaint>) {
     (lines, ended)
 }
 
-/// The line of an action: decimal numbers, `all` for 63, `change` for address 0.
+/// The line of an action: decimal numbers, `all` for 63, `change` for address 0, `label` for a label
+/// that is not 0.
 pub fn print_action(text: &mut Vec<u8>, action: Action) {
     let address = |address: u8| match address {
         ALL_NODES => "all".to_string(),
         _ => address.to_string(),
     };
     let line = match action {
-        Action::Request { node, packet } => {
-            format!("request {node} {} {} {}", address(packet.address), packet.header, packet.data)
+        Action::Request { node, packet: Packet { address: to, head, data } } => {
+            let Head { header, label } = head;
+            let labelled = match label {
+                0 => String::new(),
+                _ => format!(" label {label}"),
+            };
+            format!("request {node} {} {header} {data}{labelled}", address(to))
         }
         Action::Arbitrate { node } => format!("arbitrate {node}"),
         Action::Respond { node, ack, hold: false } => format!("respond {node} {ack}"),

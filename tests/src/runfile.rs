@@ -118,8 +118,8 @@ pub fn records(actions: &[u8]) -> impl Iterator<Item = Record> + '_ {
     })
 }
 
-/// "The writer looks at 8, 1, 11, then 2 to 6 for each action." "A refused write leaves its buffer
-/// as it was".
+/// "The writer looks at 8, 1, 11, then 2 to 6 for each action", and at 13 "after 5, by the writer
+/// too". "A refused write leaves its buffer as it was".
 pub fn write_block(
     buffer: &mut [u8],
     number: u32,

@@ -1,9 +1,12 @@
-//! "The reception chart as one table" (request 2), printed from [`Mode::receive`]. Neither what a
+//! "The reception chart as one table" (request 2), printed from [`Node::receive`]. Neither what a
 //! mode remembers nor what a signal carries changes a cell, so here both are 0.
 
 use std::fmt;
 
-use crate::bus::{Check, Effect, Mode, Signal, ALL_NODES};
+use crate::bus::{Check, Effect, Head, Mode, Node, Signal, ALL_NODES};
+
+/// So is the head that modes remember and Headers carry.
+const ZERO: Head = Head { header: 0, label: 0 };
 
 /// "There are 14 signal classes".
 pub const CLASSES: usize = 14;
@@ -21,12 +24,12 @@ pub const MODES: [(&str, Mode); 24] = [
     ("Addressed", Mode::Addressed),
     ("HeadOwn", Mode::HeadOwn),
     ("HeadAll", Mode::HeadAll),
-    ("BodyOwn", Mode::BodyOwn { header: 0 }),
-    ("BodyAll", Mode::BodyAll { header: 0 }),
-    ("TailOwn good", Mode::TailOwn { header: 0, data: Some(0) }),
-    ("TailOwn bad", Mode::TailOwn { header: 0, data: None }),
-    ("TailAll good", Mode::TailAll { header: 0, data: Some(0) }),
-    ("TailAll bad", Mode::TailAll { header: 0, data: None }),
+    ("BodyOwn", Mode::BodyOwn { head: ZERO }),
+    ("BodyAll", Mode::BodyAll { head: ZERO }),
+    ("TailOwn good", Mode::TailOwn { head: ZERO, data: Some(0) }),
+    ("TailOwn bad", Mode::TailOwn { head: ZERO, data: None }),
+    ("TailAll good", Mode::TailAll { head: ZERO, data: Some(0) }),
+    ("TailAll bad", Mode::TailAll { head: ZERO, data: None }),
     ("Wait", Mode::Wait),
     ("Owed", Mode::Owed),
     ("Sending", Mode::Sending { step: 0 }),
@@ -42,10 +45,10 @@ pub const MODES: [(&str, Mode); 24] = [
 pub fn place(mode: Mode) -> usize {
     let listed = match mode {
         Mode::AckEnd { good } => Mode::AckEnd { good: good.map(|_| 0) },
-        Mode::BodyOwn { .. } => Mode::BodyOwn { header: 0 },
-        Mode::BodyAll { .. } => Mode::BodyAll { header: 0 },
-        Mode::TailOwn { data, .. } => Mode::TailOwn { header: 0, data: data.map(|_| 0) },
-        Mode::TailAll { data, .. } => Mode::TailAll { header: 0, data: data.map(|_| 0) },
+        Mode::BodyOwn { .. } => Mode::BodyOwn { head: ZERO },
+        Mode::BodyAll { .. } => Mode::BodyAll { head: ZERO },
+        Mode::TailOwn { data, .. } => Mode::TailOwn { head: ZERO, data: data.map(|_| 0) },
+        Mode::TailAll { data, .. } => Mode::TailAll { head: ZERO, data: data.map(|_| 0) },
         Mode::Sending { .. } => Mode::Sending { step: 0 },
         Mode::Acking { .. } => Mode::Acking { step: 0, ack: 0, hold: false },
         bare => bare,
@@ -65,8 +68,8 @@ pub fn signals(own: u8) -> [Signal; CLASSES] {
         Signal::Dest(own),
         Signal::Dest(ALL_NODES),
         Signal::Dest(another(own)),
-        Signal::Header(0, Check::Good),
-        Signal::Header(0, Check::Bad),
+        Signal::Header(ZERO, Check::Good),
+        Signal::Header(ZERO, Check::Bad),
         Signal::Data(0, Check::Good),
         Signal::Data(0, Check::Bad),
         Signal::Ack(0, Check::Good),
@@ -85,7 +88,7 @@ pub fn class(own: u8, signal: Signal) -> usize {
         Signal::Dest(address) if address != own && address != ALL_NODES => {
             Signal::Dest(another(own))
         }
-        Signal::Header(_, check) => Signal::Header(0, check),
+        Signal::Header(_, check) => Signal::Header(ZERO, check),
         Signal::Data(_, check) => Signal::Data(0, check),
         Signal::Ack(_, check) => Signal::Ack(0, check),
         bare => bare,
@@ -104,7 +107,7 @@ pub struct Cell {
 impl Cell {
     /// What node `own` does in this mode with this signal.
     pub fn of(mode: Mode, own: u8, signal: Signal) -> Cell {
-        let (next, effect) = mode.receive(own, signal);
+        let (next, effect) = Node { mode, ..Node::FRESH }.receive(own, signal);
         let report = match effect {
             Effect::Report(report) => Some(report.word()),
             Effect::Nothing | Effect::Pending => None,

@@ -23,13 +23,17 @@ pub fn action(out: &mut Vec<u8>, index: u64, kind: u8, reported: Option<Reported
     out.push(b' ');
     out.extend_from_slice(report.word().as_bytes());
     match report {
-        Report::Won | Report::Lost | Report::Sent | Report::Miss => (),
-        Report::Ack(ack) => after_space(out, ack.into()),
-        Report::Dcrc { header } => after_space(out, header.into()),
-        Report::Good { header, data } | Report::Broad { header, data } => {
-            after_space(out, header.into());
+        Report::Won | Report::Lost | Report::Sent { .. } | Report::Miss { .. } => (),
+        Report::Ack { ack, .. } => after_space(out, ack.into()),
+        Report::Dcrc { head } => after_space(out, head.header.into()),
+        Report::Good { head, data } | Report::Broad { head, data } => {
+            after_space(out, head.header.into());
             after_space(out, data.into());
         }
+    }
+    // "end with it, so case A's line 12 reads `12 4 0 sent 0`"
+    if let Some(label) = report.label() {
+        after_space(out, label.into());
     }
     out.push(b'\n');
 }

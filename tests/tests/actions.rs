@@ -2,12 +2,19 @@
 
 mod common;
 
-use bench_model::bus::{Bus, Mode, Node, Packet, Phase, Record, Report, Reported, Signal};
+use bench_model::bus::{Bus, Check, Head, Mode, Node, Phase, Record, Report, Reported, Signal};
 use common::*;
 
 fn said(node: u8, report: Report) -> Option<Reported> {
     Some(Reported { node, report })
 }
+
+fn miss(node: u8, label: u8) -> Option<Reported> {
+    said(node, Report::Miss { label })
+}
+
+/// Node 1's reply (3, 4), label 9.
+const REPLY: Head = Head { header: 3, label: 9 };
 
 fn play(bus: &mut Bus, records: &[Record]) -> Vec<Option<Reported>> {
     records.iter().map(|record| bus.step(record).expect("open")).collect()
@@ -49,11 +56,11 @@ fn delivering_goes_to_every_other_node_lowest_first() {
 
 #[test]
 fn a_packet_to_itself_is_missed() {
-    let mut run = vec![request(0, 0, 5, 6), arbitrate(0)];
+    let mut run = vec![labelled(0, 0, 5, 6, 7), arbitrate(0)];
     run.extend(packet_of_two());
     let mut bus = after(2, &run);
     assert_eq!(bus.phase, Phase::Gapping { node: 0 });
-    assert_eq!(play(&mut bus, &[gap(), gap()]), [said(0, Report::Miss), None]);
+    assert_eq!(play(&mut bus, &[gap(), gap()]), [miss(0, 7), None]);
     assert_eq!(bus.phase, Phase::Idle);
 }
 
@@ -75,19 +82,19 @@ fn end_ends_the_holding_and_prefix_does_not() {
 #[test]
 fn held_acknowledgement_is_reported_at_its_prefix() {
     let text = printed(2, &held());
-    assert!(text.ends_with("\n20 4 -\n21 5 0 ack 1\ndone 22\n"), "{text}");
+    assert!(text.ends_with("\n20 4 -\n21 5 0 ack 1 7\ndone 22\n"), "{text}");
 }
 
 /// Trap: "Emptying the buffer of a holder when its reply is sent."
 #[test]
 fn a_request_from_holding_leaves_the_buffer() {
-    let mut run = vec![request(1, 63, 8, 9)];
+    let mut run = vec![labelled(1, 63, 8, 9, 11)];
     run.extend(held());
     let mut bus = after(2, &run);
-    let waiting = Some(Packet { address: 63, header: 8, data: 9 });
+    let waiting = Some(packet(63, 8, 9, 11));
     assert_eq!(bus.nodes[1].buffer, waiting);
-    assert_eq!(bus.step(&request(1, 0, 3, 4)), Ok(None));
-    let sending = Packet { address: 0, header: 3, data: 4 };
+    assert_eq!(bus.step(&labelled(1, 0, 3, 4, 9)), Ok(None));
+    let sending = packet(0, 3, 4, 9);
     assert_eq!(bus.nodes[1], Node { mode: Mode::Sending { step: 0 }, buffer: waiting, sending });
     play(&mut bus, &[clock(1), pass()].repeat(6));
     assert_eq!(bus.nodes[1], Node { mode: Mode::AwaitAck, buffer: waiting, sending });
@@ -101,7 +108,7 @@ fn a_request_from_holding_leaves_the_buffer() {
 fn the_requester_hears_the_reply() {
     let text = printed(2, &replied());
     let reply = "\
-21 5 0 ack 1
+21 5 0 ack 1 7
 22 1 -
 23 4 -
 24 5 -
@@ -114,7 +121,7 @@ fn the_requester_hears_the_reply() {
 31 4 -
 32 5 -
 33 4 -
-34 5 0 good 3 4
+34 5 0 good 3 4 9
 35 8 -
 36 3 -
 37 4 -
@@ -122,7 +129,7 @@ fn the_requester_hears_the_reply() {
 39 4 -
 40 5 -
 41 4 -
-42 5 1 ack 7
+42 5 1 ack 2 9
 43 9 -
 44 9 -
 done 45
@@ -133,11 +140,11 @@ done 45
 #[test]
 fn a_reply_to_all_nodes_is_heard() {
     let mut run = held();
-    run.push(request(1, 63, 3, 4));
+    run.push(labelled(1, 63, 3, 4, 9));
     let mut bus = after(2, &run);
     let reports = play(&mut bus, &[clock(1), pass()].repeat(6));
-    assert_eq!(reports[10], said(1, Report::Sent));
-    assert_eq!(reports[11], said(0, Report::Broad { header: 3, data: 4 }));
+    assert_eq!(reports[10], said(1, Report::Sent { label: 9 }));
+    assert_eq!(reports[11], said(0, Report::Broad { head: REPLY, data: 4 }));
     assert_eq!(bus.phase, Phase::Gapping { node: 0 });
 }
 
@@ -152,17 +159,17 @@ fn a_damaged_reply_is_missed() {
         let mut bus = after(2, &run);
         assert_eq!(bus.nodes[0].mode, Mode::Owed);
         let reports = play(&mut bus, &[grant(), clock(0), gap(), gap()]);
-        assert_eq!(reports, [None, None, None, said(1, Report::Miss)]);
+        assert_eq!(reports, [None, None, None, miss(1, 9)]);
         // The Ack, at 40: node 1 hears of it at the End.
         let mut run = replied();
         run[40] = damage;
-        assert!(printed(2, &run).ends_with("\n41 4 -\n42 5 1 miss\n43 9 -\n44 9 -\ndone 45\n"));
+        assert!(printed(2, &run).ends_with("\n41 4 -\n42 5 1 miss 9\n43 9 -\n44 9 -\ndone 45\n"));
     }
     // The Data, at 32: bad ones are told and acknowledged, lost ones are not.
     let mut run = replied();
     run[32] = change(0);
     let text = printed(2, &run);
-    assert!(text.contains("\n34 5 0 dcrc 3\n") && text.contains("\n42 5 1 ack 7\n"), "{text}");
+    assert!(text.contains("\n34 5 0 dcrc 3 9\n") && text.contains("\n42 5 1 ack 2 9\n"), "{text}");
     run[32] = lose();
     run.truncate(35);
     assert_eq!(after(2, &run).nodes[0].mode, Mode::Owed);
@@ -176,17 +183,17 @@ fn without_its_acknowledgement_the_requester_does_not_listen() {
         run[19] = damage;
         run.truncate(35);
         let mut bus = after(2, &run);
-        assert!(printed(2, &run[..22]).ends_with("\n21 5 0 miss\ndone 22\n"));
+        assert!(printed(2, &run[..22]).ends_with("\n21 5 0 miss 7\ndone 22\n"));
         assert_eq!(bus.nodes[0].mode, Mode::Wait);
         assert_eq!(bus.phase, Phase::Gapping { node: 0 });
-        assert_eq!(play(&mut bus, &[gap(), gap()]), [None, said(1, Report::Miss)]);
+        assert_eq!(play(&mut bus, &[gap(), gap()]), [None, miss(1, 9)]);
     }
 }
 
 /// Node 2 has heard an acknowledgement that was not for it, and is in Wait.
 #[test]
 fn the_reply_reaches_the_requester_alone() {
-    let mut run = vec![request(0, 1, 5, 6), arbitrate(0)];
+    let mut run = vec![labelled(0, 1, 5, 6, 7), arbitrate(0)];
     run.extend([clock(0), pass(), pass()].repeat(6));
     run.extend([grant(), respond(1, 1, 1)]);
     run.extend([clock(1), pass(), pass()].repeat(3));
@@ -195,17 +202,17 @@ fn the_reply_reaches_the_requester_alone() {
     assert_eq!([0, 1, 2].map(|node| bus.nodes[node].mode), modes);
     // To all nodes: told at node 0, and not at node 2.
     let mut to_all = bus.clone();
-    play(&mut to_all, &[request(1, 63, 3, 4)]);
+    play(&mut to_all, &[labelled(1, 63, 3, 4, 9)]);
     let reports = play(&mut to_all, &[clock(1), pass(), pass()].repeat(6));
-    let broad = said(0, Report::Broad { header: 3, data: 4 });
-    assert_eq!(reports[15..], [said(1, Report::Sent), broad, None]);
+    let broad = said(0, Report::Broad { head: REPLY, data: 4 });
+    assert_eq!(reports[15..], [said(1, Report::Sent { label: 9 }), broad, None]);
     // To node 2: nobody takes it.
     let mut to_other = bus;
-    play(&mut to_other, &[request(1, 2, 3, 4)]);
+    play(&mut to_other, &[labelled(1, 2, 3, 4, 9)]);
     let reports = play(&mut to_other, &[clock(1), pass(), pass()].repeat(6));
     assert_eq!(reports, [None; 18]);
     let reports = play(&mut to_other, &[gap(), gap(), gap()]);
-    assert_eq!(reports, [None, said(1, Report::Miss), None]);
+    assert_eq!(reports, [None, miss(1, 9), None]);
 }
 
 /// The mark after each of these actions on this bus.
@@ -337,7 +344,7 @@ fn the_end_of_a_spurious_node_reaches_nobody() {
     assert_eq!(bus.nodes[2].mode, Mode::Rest);
     play(&mut bus, &[respond(1, 4, 0), clock(1), pass(), pass(), clock(1), pass(), pass()]);
     let reports = play(&mut bus, &[clock(1), pass(), pass()]);
-    assert_eq!(reports, [None, said(0, Report::Ack(4)), None]);
+    assert_eq!(reports, [None, said(0, Report::Ack { ack: 4, label: 0 }), None]);
     assert_eq!(bus.phase, Phase::Gapping { node: 0 });
 }
 
@@ -348,13 +355,13 @@ fn start_clears_the_misled_marks() {
     let mut run = vec![request(0, 63, 1, 2), arbitrate(0)];
     run.extend(packet_of_two());
     run[7] = change(0);
-    run.extend([gap(), gap(), reset(), request(0, 63, 3, 4), arbitrate(0)]);
+    run.extend([gap(), gap(), reset(), labelled(0, 63, 3, 4, 9), arbitrate(0)]);
     let mut bus = after(2, &run);
     assert!(bus.misled.has(1));
     play(&mut bus, &[clock(0)]);
     assert!(!bus.misled.any(2));
     let reports = play(&mut bus, &[&[pass()][..], &[clock(0), pass()].repeat(5)].concat());
-    assert_eq!(reports[10], said(1, Report::Broad { header: 3, data: 4 }));
+    assert_eq!(reports[10], said(1, Report::Broad { head: REPLY, data: 4 }));
 }
 
 /// The Start of an acknowledgement is a Start too.
@@ -433,8 +440,9 @@ fn gap_starts_where_the_state_says() {
     let mut bus = Bus { phase: Phase::Gapping { node: 1 }, ..Bus::fresh(3).unwrap() };
     bus.nodes[0].mode = Mode::AwaitAck;
     bus.nodes[1].mode = Mode::AckEnd { good: Some(1) };
+    bus.nodes[1].sending = packet(0, 5, 6, 7);
     bus.nodes[2].mode = Mode::Wait;
-    assert_eq!(play(&mut bus, &[gap(), gap()]), [said(1, Report::Miss), None]);
+    assert_eq!(play(&mut bus, &[gap(), gap()]), [miss(1, 7), None]);
     assert_eq!(bus.phase, Phase::Idle);
     assert_eq!(bus.nodes[0].mode, Mode::AwaitAck);
 }
@@ -452,4 +460,97 @@ fn forward_actions() {
     assert!(!forward(&after(2, &run), clock(1)), "a filler in Holding");
     assert!(forward(&after(2, &run), request(1, 0, 0, 0)), "from Holding");
     assert!(!forward(&after(2, &case_b()), reset()));
+}
+
+/// What node 0 holds, what is under way and what node 1 remembers, after so many actions of case B.
+fn label_at(actions: usize) -> (Node, Phase, Mode) {
+    let bus = after(2, &case_b_labelled()[..actions]);
+    (bus.nodes[0], bus.phase, bus.nodes[1].mode)
+}
+
+/// "It travels with the packet through buffer, sending and reception, on the bus inside the Header
+/// signal."
+#[test]
+fn the_label_travels_with_the_packet() {
+    let own = packet(1, 5, 6, 7);
+    let head = own.head;
+    assert_eq!(label_at(1).0, Node { buffer: Some(own), ..Node::FRESH });
+    let sending = |step| Node { mode: Mode::Sending { step }, buffer: None, sending: own };
+    assert_eq!(label_at(2).0, sending(0));
+    let under_way = |signal| Phase::Delivering { sender: 0, signal, receiver: 1 };
+    let header = under_way(Signal::Header(head, Check::Good));
+    assert_eq!(label_at(9), (sending(4), header, Mode::HeadOwn));
+    assert_eq!(label_at(10).2, Mode::BodyOwn { head });
+    assert_eq!(label_at(12).2, Mode::TailOwn { head, data: Some(6) });
+    // It stays with the packet that was sent last, until the next takes its place.
+    let rests = |packet| Node { mode: Mode::Rest, buffer: None, sending: packet };
+    assert_eq!(label_at(24).0, rests(own));
+    let mut bus = after(2, &case_b_labelled());
+    play(&mut bus, &[reset(), labelled(0, 1, 5, 6, 8)]);
+    assert_eq!(bus.nodes[0], Node { buffer: Some(packet(1, 5, 6, 8)), ..rests(own) });
+    play(&mut bus, &[arbitrate(0)]);
+    assert_eq!(bus.nodes[0].sending, packet(1, 5, 6, 8));
+    // With bad data, and to all nodes.
+    let mut run = case_b_labelled();
+    run[11] = change(0);
+    assert_eq!(after(2, &run[..12]).nodes[1].mode, Mode::TailOwn { head, data: None });
+    run[0] = labelled(0, 63, 5, 6, 7);
+    assert_eq!(after(2, &run[..10]).nodes[1].mode, Mode::BodyAll { head });
+    assert_eq!(after(2, &run[..12]).nodes[1].mode, Mode::TailAll { head, data: None });
+    run[11] = pass();
+    assert_eq!(after(2, &run[..12]).nodes[1].mode, Mode::TailAll { head, data: Some(6) });
+}
+
+/// A Header that is lost or changed goes on to the next receiver with its label.
+#[test]
+fn the_label_reaches_each_receiver() {
+    let mut run = vec![labelled(0, 63, 1, 2, 63), arbitrate(0)];
+    run.extend([clock(0), pass(), pass(), pass()].repeat(6));
+    for damage in [lose(), change(0)] {
+        run[15] = damage;
+        let reports = play(&mut Bus::fresh(4).unwrap(), &run);
+        let broad = Report::Broad { head: Head { header: 1, label: 63 }, data: 2 };
+        let sent = said(0, Report::Sent { label: 63 });
+        assert_eq!(reports[22..], [sent, None, said(2, broad), said(3, broad)]);
+    }
+}
+
+/// Node 1 has a packet waiting when node 0's comes, replies, and then sends the one that waited. Each
+/// report bears the label of the packet that it is about.
+#[test]
+fn labels_of_a_reply_and_of_a_packet_that_waits() {
+    let sends = [clock(1), pass()].repeat(6);
+    let acknowledged =
+        |ack| [vec![grant(), respond(0, ack, 0)], [clock(0), pass()].repeat(3)].concat();
+    let start = [vec![labelled(1, 0, 8, 9, 11)], held()].concat();
+    let end = [vec![gap(), gap(), arbitrate(1)], sends.clone(), acknowledged(4)].concat();
+    // The Ack of the reply, at 41, gets lost.
+    let reply = vec![labelled(1, 0, 3, 4, 9)];
+    let mut run = [&start[..], &reply, &sends, &acknowledged(2), &end].concat();
+    run[41] = lose();
+    let expected = [
+        "2 2 0 won",
+        "14 5 1 good 5 6 7",
+        "22 5 0 ack 1 7",
+        "35 5 0 good 3 4 9",
+        "43 5 1 miss 9",
+        "46 2 1 won",
+        "58 5 0 good 8 9 11",
+        "66 5 1 ack 4 11",
+    ];
+    assert_eq!(reports(&printed(2, &run)), expected);
+    // A reply to all nodes.
+    let reply = vec![labelled(1, 63, 3, 4, 9)];
+    let run = [&start[..], &reply, &sends, &end].concat();
+    let expected = [
+        "2 2 0 won",
+        "14 5 1 good 5 6 7",
+        "22 5 0 ack 1 7",
+        "34 4 1 sent 9",
+        "35 5 0 broad 3 4 9",
+        "38 2 1 won",
+        "50 5 0 good 8 9 11",
+        "58 5 1 ack 4 11",
+    ];
+    assert_eq!(reports(&printed(2, &run)), expected);
 }

@@ -9,7 +9,7 @@ use common::*;
 
 /// A run of so many actions that are accepted: requests into buffers and lost arbitrations.
 fn long_run(actions: usize) -> Vec<Record> {
-    let mut run = vec![request(0, 63, 1, 2), arbitrate(0), request(1, 63, 3, 4)];
+    let mut run = vec![labelled(0, 63, 1, 2, 5), arbitrate(0), labelled(1, 63, 3, 4, 63)];
     run.resize(actions.max(3), arbitrate(1));
     run.truncate(actions);
     run
@@ -35,17 +35,17 @@ fn altered(mut file: Vec<u8>, place: usize, alter: impl Fn(&mut [u8; BLOCK])) ->
 #[test]
 fn the_layout_of_a_block() {
     let mut block = [0xee; BLOCK];
-    let records = [request(1, 63, 0x0403_0201, 0x0807_0605), respond(1, 9, 1)];
+    let records = [labelled(1, 63, 0x0403_0201, 0x0807_0605, 42), respond(1, 9, 1)];
     runfile::write_block(&mut block, 0x0d0c_0b0a, 3, &records).unwrap();
     assert_eq!(block[..6], [0x0a, 0x0b, 0x0c, 0x0d, 2, 3]);
     assert_eq!(block[6..14], [0; 8]);
-    assert_eq!(block[14..30], [1, 1, 63, 0, 0, 0, 0, 0, 1, 2, 3, 4, 5, 6, 7, 8]);
+    assert_eq!(block[14..30], [1, 1, 63, 0, 0, 42, 0, 0, 1, 2, 3, 4, 5, 6, 7, 8]);
     assert_eq!(block[30..46], [3, 1, 0, 9, 1, 0, 0, 0, 0, 0, 0, 0, 0, 0, 0, 0]);
     assert_eq!(block[46..510], [0; 464]);
     // By hand: 10·1 + 11·2 + 12·3 + 13·4 + 2·5 + 3·6 = 148; the request's bytes at i + 1 = 15 to 30:
-    // 15 + 16 + 63·17 + 23 + 2·24 + 3·25 + 4·26 + 5·27 + 6·28 + 7·29 + 8·30 = 2098; the respond's
-    // at 31 to 35: 3·31 + 32 + 9·34 + 35 = 466.
-    assert_eq!(block[510..], 2712u16.to_le_bytes());
+    // 15 + 16 + 63·17 + 42·20 + 23 + 2·24 + 3·25 + 4·26 + 5·27 + 6·28 + 7·29 + 8·30 = 2938; the
+    // respond's at 31 to 35: 3·31 + 32 + 9·34 + 35 = 466.
+    assert_eq!(block[510..], 3552u16.to_le_bytes());
     let (head, actions) = runfile::read_block(&block).unwrap();
     assert_eq!(head, Head { number: 0x0d0c_0b0a, count: 2, n: 3 });
     assert_eq!(actions, &block[14..46]);
@@ -235,7 +235,39 @@ fn a_single_block() {
     assert_eq!(runfile::read_block(&unsealed), Err(Refusal::BlockCheck), "9 before 1");
 }
 
-/// "The writer looks at 8, 1, 11, then 2 to 6 for each action."
+/// Every label has a file of its own, and is read back from it.
+#[test]
+fn labels_written_and_read_back() {
+    for label in 0..=63 {
+        let run = [labelled(1, 0, 1, 2, label), pass(), labelled(0, 63, 3, 4, 63 - label)];
+        let file = runfile::write_file(2, &run).unwrap();
+        assert_eq!([file[19], file[35], file[51]], [label, 0, 63 - label]);
+        let (_, actions) = runfile::read_block(&file).unwrap();
+        assert!(runfile::records(actions).eq(run));
+    }
+}
+
+/// "then each action, when its turn comes": 13 ends a file there.
+#[test]
+fn number_13() {
+    for label in [64, 128, 255] {
+        // The request at 2, and one after the first block.
+        let wrong = altered(file_of(63), 0, |block| block[14 + 16 * 2 + 5] = label);
+        assert_eq!(printed_file(&wrong), "nodes 2\n0 1 -\n1 2 0 won\nrefused 2 13\n");
+        let mut run = long_run(63);
+        run[40] = labelled(1, 63, 3, 4, label);
+        let mut file = file_of(63);
+        let block = (&mut file[BLOCK..2 * BLOCK]).try_into().unwrap();
+        runfile::write_unchecked(block, 1, 2, &run[31..62]);
+        assert_eq!(last_line(&file), "refused 40 13");
+    }
+    // A single block gives it back.
+    let wrong = altered(file_of(3), 0, |block| block[19] = 64);
+    let (_, actions) = runfile::read_block(&wrong).unwrap();
+    assert_eq!(actions[5], 64, "unchecked");
+}
+
+/// "The writer looks at 8, 1, 11, then 2 to 6 for each action", and at 13 after 5.
 #[test]
 fn the_writer() {
     let refused = |n: u8, records: &[Record]| {
@@ -252,11 +284,18 @@ fn the_writer() {
     assert_eq!(refused(2, &[pass(), Record { node: 1, ..pass() }]), 3);
     assert_eq!(refused(2, &[pass(), clock(2)]), 4);
     assert_eq!(refused(2, &[pass(), change(2)]), 5);
+    assert_eq!(refused(2, &[pass(), labelled(1, 2, 0, 0, 64)]), 5);
+    assert_eq!(refused(2, &[pass(), labelled(1, 63, 0, 0, 64)]), 13);
+    assert_eq!(refused(2, &[pass(), Record { label: 1, ..clock(1) }]), 3);
     assert_eq!(refused(2, &[pass(), respond(1, 16, 0)]), 6);
     assert_eq!(refused(2, &[clock(2), wrong]), 4, "each action in its turn");
+    let no_label = labelled(1, 63, 0, 0, 255);
+    assert_eq!(refused(2, &[no_label, clock(2)]), 13, "each action in its turn");
     // 7 is not looked at.
     let mut buffer = [0xee; BLOCK];
     assert_eq!(runfile::write_block(&mut buffer, 0, 2, &[pass(); 31]), Ok(()));
+    let run = [labelled(0, 1, 0, 0, 63); 31];
+    assert_eq!(runfile::write_block(&mut buffer, 0, 2, &run), Ok(()));
     assert_eq!(runfile::write_file(2, &[]), Err(Refusal::BlockContent));
     assert_eq!(runfile::write_file(1, &[]), Err(Refusal::NodeCount));
 }
@@ -270,7 +309,8 @@ fn figures_are_decimal() {
     let expected =
         "done 0\ndone 9\ndone 10\ndone 99\ndone 100\ndone 4294967295\ndone 18446744073709551615\n";
     assert_eq!(String::from_utf8(text).unwrap(), expected);
-    let run = [request(0, 63, u32::MAX, 0), arbitrate(0)];
+    let run = [labelled(0, 63, u32::MAX, 0, 10), arbitrate(0)];
     let run = [&run[..], &packet_of_two()].concat();
-    assert!(printed(2, &run).ends_with("\n12 4 0 sent\n13 5 1 broad 4294967295 0\ndone 14\n"));
+    let end = "\n12 4 0 sent 10\n13 5 1 broad 4294967295 0 10\ndone 14\n";
+    assert!(printed(2, &run).ends_with(end));
 }

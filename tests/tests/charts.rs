@@ -2,8 +2,9 @@
 
 mod common;
 
-use bench_model::bus::{Effect, Mode, Packet, Signal};
+use bench_model::bus::{Effect, Mode, Signal};
 use common::chart::{rows, Answer, Receiver, RECEIVERS};
+use common::packet;
 
 /// What the table says: the mode with what it remembers, and what else comes of the signal.
 fn expected(receiver: &Receiver, before: &str, signal: Signal, answer: Answer) -> (Mode, Effect) {
@@ -25,10 +26,10 @@ fn every_cell() {
     for receiver in RECEIVERS {
         let mut cells = 0;
         for (before, answers) in rows() {
-            let mode = receiver.mode(before);
+            let node = receiver.node(receiver.mode(before));
             for (signal, answer) in receiver.signals().into_iter().zip(answers) {
                 assert_eq!(
-                    mode.receive(receiver.own, signal),
+                    node.receive(receiver.own, signal),
                     expected(&receiver, before, signal, answer),
                     "{before} on {signal:?}, {receiver:?}"
                 );
@@ -51,5 +52,5 @@ fn a_fresh_record_is_all_zero() {
     let fresh = bench_model::bus::Node::FRESH;
     assert_eq!(fresh.mode, Mode::Rest);
     assert_eq!(fresh.buffer, None);
-    assert_eq!(fresh.sending, Packet { address: 0, header: 0, data: 0 });
+    assert_eq!(fresh.sending, packet(0, 0, 0, 0));
 }

@@ -2,7 +2,7 @@
 
 mod common;
 
-use bench_model::bus::{Bus, Mode, Phase, Record};
+use bench_model::bus::{Bus, Head, Mode, Phase, Record, Signal};
 use bench_model::harness::forward::{self, Choice};
 use bench_model::harness::generate::{self, Kind};
 use bench_model::harness::random::Random;
@@ -24,6 +24,8 @@ fn watched(n: u8, records: &[Record]) -> Result<Watch, String> {
 #[test]
 fn marked_cases_pass() {
     let mut run = case_b();
+    watched(2, &run).unwrap();
+    run = case_b_labelled();
     watched(2, &run).unwrap();
     run[9] = lose();
     // Most of what follows is refused now, and is played all the same.
@@ -58,7 +60,7 @@ fn a_second_reply_is_seen() {
     let mut watch = watched(2, &replied()[..36]).unwrap();
     // Without its mark the bus lets node 0 hold too.
     watch.bus.concatenated = false;
-    watch.step(&respond(0, 7, 1)).unwrap().unwrap();
+    watch.step(&respond(0, 2, 1)).unwrap().unwrap();
     for record in [clock(0), pass()].repeat(3) {
         watch.step(&record).unwrap().unwrap();
     }
@@ -68,7 +70,9 @@ fn a_second_reply_is_seen() {
 #[test]
 fn a_lost_buffer_is_seen() {
     let mut watch = watched(2, &[request(0, 1, 5, 6)]).unwrap();
-    watch.bus.nodes[0].buffer.as_mut().unwrap().data = 7;
+    watch.bus.nodes[0].buffer = Some(packet(1, 5, 7, 0));
+    assert!(watch.look().unwrap_err().contains("buffer"));
+    watch.bus.nodes[0].buffer = Some(packet(1, 5, 6, 1));
     assert!(watch.look().unwrap_err().contains("buffer"));
     watch.bus.nodes[0].buffer = None;
     assert!(watch.look().unwrap_err().contains("buffer"));
@@ -100,9 +104,9 @@ fn a_second_confirmation_is_seen() {
     assert!(watch.step(&gap()).unwrap_err().contains("confirmation"));
 }
 
-/// Case B up to where node 0 waits for the End of its acknowledgement.
+/// Case B with label 7, up to where node 0 waits for the End of its acknowledgement.
 fn before_ack() -> Watch {
-    watched(2, &case_b()[..21]).unwrap()
+    watched(2, &case_b_labelled()[..21]).unwrap()
 }
 
 #[test]
@@ -114,12 +118,11 @@ fn a_false_acknowledgement_is_seen() {
     // Never told.
     let mut watch = watched(2, &case_b()[..13]).unwrap();
     watch.bus.nodes[0].mode = Mode::AckEnd { good: Some(1) };
-    watch.bus.phase =
-        Phase::Delivering { sender: 1, signal: bench_model::bus::Signal::End, receiver: 0 };
+    watch.bus.phase = Phase::Delivering { sender: 1, signal: Signal::End, receiver: 0 };
     assert!(watch.step(&pass()).unwrap_err().contains("0 times told"));
     // Told of another packet.
     let mut watch = watched(2, &case_b()[..13]).unwrap();
-    watch.bus.nodes[1].mode = Mode::TailOwn { header: 5, data: Some(7) };
+    watch.bus.nodes[1].mode = Mode::TailOwn { head: Head { header: 5, label: 0 }, data: Some(7) };
     for record in &case_b()[13..21] {
         watch.step(record).unwrap().unwrap();
     }
@@ -144,7 +147,7 @@ fn a_false_acknowledgement_of_a_reply_is_seen() {
     assert!(watch.step(&pass()).unwrap_err().contains("the respond is"));
     // Told of another packet: of the request that it answers.
     let mut watch = watched(2, &replied()[..34]).unwrap();
-    watch.bus.nodes[0].mode = Mode::TailOwn { header: 5, data: Some(6) };
+    watch.bus.nodes[0].mode = Mode::TailOwn { head: Head { header: 5, label: 7 }, data: Some(6) };
     for record in &replied()[34..42] {
         watch.step(record).unwrap().unwrap();
     }
@@ -152,17 +155,68 @@ fn a_false_acknowledgement_of_a_reply_is_seen() {
     // Never told of the reply.
     let mut watch = watched(2, &replied()[..34]).unwrap();
     watch.bus.nodes[1].mode = Mode::AckEnd { good: Some(1) };
-    watch.bus.phase =
-        Phase::Delivering { sender: 0, signal: bench_model::bus::Signal::End, receiver: 1 };
+    watch.bus.phase = Phase::Delivering { sender: 0, signal: Signal::End, receiver: 1 };
     assert!(watch.step(&pass()).unwrap_err().contains("0 times told"));
     // As it should be.
     before_ack().step(&pass()).unwrap().unwrap();
 }
 
+/// "the told report before an `ack a`, bears the label of its own request": good and dcrc, of a
+/// request and of a reply.
+#[test]
+fn a_told_report_with_another_label_is_seen() {
+    // The run, the action by which the node is told, and of what.
+    for (run, told, node, own) in
+        [(case_b_labelled(), 13, 1, packet(1, 5, 6, 7)), (replied(), 34, 0, packet(0, 3, 4, 9))]
+    {
+        for data in [Some(own.data), None] {
+            let at_ack = |label| {
+                let mut watch = watched(2, &run[..told]).unwrap();
+                let head = Head { label, ..own.head };
+                watch.bus.nodes[node].mode = Mode::TailOwn { head, data };
+                for record in &run[told..told + 8] {
+                    watch.step(record).unwrap().unwrap();
+                }
+                watch.step(&pass())
+            };
+            at_ack(own.head.label).unwrap().unwrap();
+            // The others' among them.
+            for other in [0, 16 - own.head.label, 63] {
+                assert!(at_ack(other).unwrap_err().contains("not of the packet"));
+            }
+        }
+    }
+}
+
+/// "A confirmation […] bears the label of its own request": each of the three kinds.
+#[test]
+fn a_confirmation_with_another_label_is_seen() {
+    let mut all = case_b_labelled();
+    all[0] = labelled(0, 63, 5, 6, 7);
+    let mut missed = case_b_labelled();
+    missed[19] = lose();
+    // The run, the action that reports, the node and its own label.
+    for (run, place, node, own) in [
+        (all, 12, 0, 7),
+        (case_b_labelled(), 21, 0, 7),
+        (missed, 21, 0, 7),
+        (held(), 21, 0, 7),
+        (replied(), 42, 1, 9),
+    ] {
+        watched(2, &run[..=place]).unwrap();
+        for other in [0, 16 - own, 63] {
+            let mut watch = watched(2, &run[..place]).unwrap();
+            watch.bus.nodes[node].sending.head.label = other;
+            let why = watch.step(&run[place]).unwrap_err();
+            assert!(why.contains(&format!("its request has label {own}")), "{why}");
+        }
+    }
+}
+
 /// A request from Holding starts at once; one in the buffer meanwhile starts with `won`.
 #[test]
 fn starts_at_once_or_with_won() {
-    let mut run = vec![request(1, 0, 8, 9)];
+    let mut run = vec![labelled(1, 0, 8, 9, 11)];
     run.extend(replied());
     run.push(arbitrate(1));
     run.extend([clock(1), pass()].repeat(6));
@@ -171,19 +225,17 @@ fn starts_at_once_or_with_won() {
     run.extend([gap(), gap()]);
     let watch = watched(2, &run).unwrap();
     assert_eq!(watch.bus.phase, Phase::Idle);
-    let text = printed(2, &run);
-    let reports: Vec<&str> = text.lines().filter(|line| line.split(' ').count() > 3).collect();
     let expected = [
         "2 2 0 won",
-        "14 5 1 good 5 6",
-        "22 5 0 ack 1",
-        "35 5 0 good 3 4",
-        "43 5 1 ack 7",
+        "14 5 1 good 5 6 7",
+        "22 5 0 ack 1 7",
+        "35 5 0 good 3 4 9",
+        "43 5 1 ack 2 9",
         "46 2 1 won",
-        "58 5 0 good 8 9",
-        "66 5 1 ack 9",
+        "58 5 0 good 8 9 11",
+        "66 5 1 ack 9 11",
     ];
-    assert_eq!(reports, expected);
+    assert_eq!(reports(&printed(2, &run)), expected);
 }
 
 #[test]

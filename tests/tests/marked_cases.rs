@@ -1,12 +1,13 @@
-//! Marked cases A to I; the texts are document 01's, or written by hand from its sentences.
+//! Marked cases A to I; the texts are document 01's, or written by hand from its sentences, with the
+//! labels of request 3.
 
 mod common;
 
-use bench_model::bus::{Bus, Refusal};
+use bench_model::bus::{Bus, Record, Refusal};
 use bench_model::runfile::{self, BLOCK};
 use common::*;
 
-/// Case A, as document 01 prints it.
+/// Case A, as document 01 prints it, and "case A's line 12 reads `12 4 0 sent 0`".
 const TEXT_A: &str = "\
 nodes 2
 0 1 -
@@ -21,19 +22,19 @@ nodes 2
 9 5 -
 10 4 -
 11 5 -
-12 4 0 sent
-13 5 1 broad 1 2
+12 4 0 sent 0
+13 5 1 broad 1 2 0
 14 9 -
 15 9 -
 done 16
 ";
 
 /// "as A but 0 to 1 (5, 6): index 13 reports `1 good 5 6`; grant, respond 1 with 1 and hold 0, three
-/// times clock 1 and pass: index 21 reports `0 ack 1`; two gaps, `done 24`"
+/// times clock 1 and pass: index 21 reports `0 ack 1`; two gaps, `done 24`", each with label 0
 fn text_b() -> String {
     let end = "\
 12 4 -
-13 5 1 good 5 6
+13 5 1 good 5 6 0
 14 8 -
 15 3 -
 16 4 -
@@ -41,7 +42,7 @@ fn text_b() -> String {
 18 4 -
 19 5 -
 20 4 -
-21 5 0 ack 1
+21 5 0 ack 1 0
 22 9 -
 23 9 -
 done 24
@@ -92,7 +93,7 @@ fn b_acknowledged() {
 fn c_bad_data() {
     let mut run = case_b();
     run[11] = change(0);
-    let text = with_lines(&text_b(), &["11 7 -", "13 5 1 dcrc 5"]);
+    let text = with_lines(&text_b(), &["11 7 -", "13 5 1 dcrc 5 0"]);
     assert_eq!(printed(2, &run), text);
 }
 
@@ -104,7 +105,7 @@ fn d_lost_header() {
     run.truncate(14);
     run.extend([grant(), clock(1), gap()]);
     let text = with_lines(&text_b(), &["9 6 -", "13 5 -"]);
-    let text = with_end(&text, "14 8 -\n15 4 -\n16 9 0 miss\ndone 17\n");
+    let text = with_end(&text, "14 8 -\n15 4 -\n16 9 0 miss 0\ndone 17\n");
     assert_eq!(printed(2, &run), text);
 }
 
@@ -113,7 +114,7 @@ fn d_lost_header() {
 fn e_lost_acknowledgement() {
     let mut run = case_b();
     run[19] = lose();
-    let text = with_lines(&text_b(), &["19 6 -", "21 5 0 miss"]);
+    let text = with_lines(&text_b(), &["19 6 -", "21 5 0 miss 0"]);
     assert_eq!(printed(2, &run), text);
 }
 
@@ -143,7 +144,7 @@ nodes 3
 15 5 -
 16 5 -
 17 4 -
-18 5 1 good 5 6
+18 5 1 good 5 6 0
 19 5 -
 20 8 -
 21 8 -
@@ -199,7 +200,105 @@ fn i_ends_of_the_ranges() {
     assert_eq!(bus.step(&respond(1, 15, 0)), Ok(None));
     let mut run = case_b();
     run[15] = respond(1, 15, 0);
-    assert!(printed(2, &run).ends_with("\n21 5 0 ack 15\n22 9 -\n23 9 -\ndone 24\n"));
+    assert!(printed(2, &run).ends_with("\n21 5 0 ack 15 0\n22 9 -\n23 9 -\ndone 24\n"));
     run[15] = respond(1, 16, 0);
     assert_eq!(runfile::write_file(2, &run), Err(Refusal::AckOrHold));
+}
+
+/// Case A with a label: sent and broad end with it.
+#[test]
+fn a_with_a_label() {
+    for label in [1, 7, 62, 63] {
+        let mut run = vec![labelled(0, 63, 1, 2, label), arbitrate(0)];
+        run.extend(packet_of_two());
+        run.extend([gap(), gap()]);
+        let (sent, broad) = (format!("12 4 0 sent {label}"), format!("13 5 1 broad 1 2 {label}"));
+        assert_eq!(printed(2, &run), with_lines(TEXT_A, &[&sent, &broad]));
+    }
+}
+
+/// Case B with label 7; the other lines are as without.
+fn text_b_labelled() -> String {
+    with_lines(&text_b(), &["13 5 1 good 5 6 7", "21 5 0 ack 1 7"])
+}
+
+#[test]
+fn b_with_a_label() {
+    assert_eq!(printed(2, &case_b_labelled()), text_b_labelled());
+}
+
+#[test]
+fn c_with_a_label() {
+    let mut run = case_b_labelled();
+    run[11] = change(0);
+    let text = with_lines(&text_b_labelled(), &["11 7 -", "13 5 1 dcrc 5 7"]);
+    assert_eq!(printed(2, &run), text);
+}
+
+#[test]
+fn d_with_a_label() {
+    let mut run = case_b_labelled();
+    run[9] = lose();
+    run.truncate(14);
+    run.extend([grant(), clock(1), gap()]);
+    let text = with_lines(&text_b_labelled(), &["9 6 -", "13 5 -"]);
+    let text = with_end(&text, "14 8 -\n15 4 -\n16 9 0 miss 7\ndone 17\n");
+    assert_eq!(printed(2, &run), text);
+}
+
+#[test]
+fn e_with_a_label() {
+    let mut run = case_b_labelled();
+    run[19] = lose();
+    let text = with_lines(&text_b_labelled(), &["19 6 -", "21 5 0 miss 7"]);
+    assert_eq!(printed(2, &run), text);
+}
+
+#[test]
+fn f_with_a_label() {
+    let mut run = vec![labelled(0, 1, 5, 6, 63), arbitrate(0)];
+    run.extend([clock(0), pass(), pass()].repeat(6));
+    run[10] = change(2);
+    run.extend([grant(), grant(), clock(2), respond(1, 3, 0)]);
+    run.extend([clock(1), pass(), pass()].repeat(3));
+    let expected = ["1 2 0 won", "18 5 1 good 5 6 63", "31 5 0 ack 3 63"];
+    assert_eq!(reports(&printed(3, &run)), expected);
+}
+
+/// As case I, for labels: "63 taken, 64 refused".
+#[test]
+fn i_ends_of_the_range_of_labels() {
+    let run = |label| vec![labelled(0, 1, 5, 6, label)];
+    assert_eq!(Bus::fresh(2).unwrap().step(&run(63)[0]), Ok(None));
+    assert_eq!(Bus::fresh(2).unwrap().step(&run(64)[0]), Err(Refusal::Label));
+    assert_eq!(printed(2, &run(63)), "nodes 2\n0 1 -\ndone 1\n");
+    assert_eq!(runfile::write_file(2, &run(64)), Err(Refusal::Label));
+    let mut block = [0; BLOCK];
+    runfile::write_unchecked(&mut block, 0, 2, &run(64));
+    assert_eq!(printed_file(&block), "nodes 2\nrefused 0 13\n");
+}
+
+/// "older runs hold 0 there": a file with 0 in byte 5 of each record prints document 01's lines, the
+/// six reports with 0 at their end.
+#[test]
+fn older_runs() {
+    let plays = |run: &[Record], old: &[&str]| {
+        let file = runfile::write_file(2, run).unwrap();
+        assert!(file[14..510].chunks(16).all(|record| record[5] == 0));
+        let with_label = |line: &&str| match line.ends_with("won") || line.ends_with("lost") {
+            true => line.to_string(),
+            false => format!("{line} 0"),
+        };
+        let expected: Vec<String> = old.iter().map(with_label).collect();
+        assert_eq!(reports(&printed_file(&file)), expected);
+    };
+    let mut run = vec![request(0, 63, 1, 2), arbitrate(0)];
+    run.extend(packet_of_two());
+    plays(&run, &["1 2 0 won", "12 4 0 sent", "13 5 1 broad 1 2"]);
+    plays(&case_b(), &["1 2 0 won", "13 5 1 good 5 6", "21 5 0 ack 1"]);
+    let mut run = case_b();
+    run[11] = change(0);
+    run[19] = lose();
+    run.extend([request(0, 1, 0, 0), arbitrate(0)]);
+    plays(&run, &["1 2 0 won", "13 5 1 dcrc 5", "21 5 0 miss", "25 2 0 lost"]);
 }

@@ -2,7 +2,7 @@
 
 mod common;
 
-use bench_model::bus::{Action, Packet, Record};
+use bench_model::bus::{Action, Record};
 use bench_model::notation::{
     compose, compose_stream, lines, list, print_action, read_line, Fault, Line,
 };
@@ -53,6 +53,10 @@ fn each_action() {
         acts("request 255 255 4294967295 0xffffffff"),
         request(255, 255, u32::MAX, u32::MAX)
     );
+    assert_eq!(acts("request 0 1 5 6 label 7"), labelled(0, 1, 5, 6, 7));
+    assert_eq!(acts("request 0 all 5 6 label 0"), request(0, 63, 5, 6));
+    assert_eq!(acts("request 0 all 5 6 label 63"), labelled(0, 63, 5, 6, 63));
+    assert_eq!(acts("request 0 all 5 6 label 255"), labelled(0, 63, 5, 6, 255));
     assert_eq!(acts("arbitrate 0"), arbitrate(0));
     assert_eq!(acts("respond 1 2"), respond(1, 2, 0));
     assert_eq!(acts("respond 1 2 hold"), respond(1, 2, 1));
@@ -88,6 +92,9 @@ fn numbers() {
     ] {
         assert_eq!(acts(&format!("request 0 1 {word} 0")).header, value, "{word}");
         assert_eq!(acts(&format!("request 0 1 0 {word}")).data, value, "{word}");
+        if let Ok(label) = u8::try_from(value) {
+            assert_eq!(acts(&format!("request 0 1 0 0 label {word}")).label, label, "{word}");
+        }
     }
     for word in [
         "x",
@@ -103,6 +110,7 @@ fn numbers() {
         "f",
         "all",
         "hold",
+        "label",
         "*",
         "00x1",
         "00X1",
@@ -110,6 +118,8 @@ fn numbers() {
         "9999999999999999z",
     ] {
         assert_eq!(fault(format!("request 0 1 {word} 0").as_bytes()), Fault::NotANumber, "{word}");
+        let label = format!("request 0 1 0 0 label {word}");
+        assert_eq!(fault(label.as_bytes()), Fault::NotANumber, "{word}");
     }
     for word in [
         "4294967296",
@@ -125,6 +135,7 @@ fn numbers() {
         "clock 256",
         "clock 0x100",
         "request 0 256 0 0",
+        "request 0 1 0 0 label 256",
         "respond 0 256",
         "nodes 256",
         "change 256",
@@ -143,6 +154,8 @@ fn blanks_and_comments() {
         assert_eq!(acts(line), clock(1), "{line:?}");
     }
     assert_eq!(acts("change# 2"), change(0));
+    assert_eq!(acts("request\t0 1 5 6\r label\t 7# 8"), labelled(0, 1, 5, 6, 7));
+    assert_eq!(acts("request 0 1 5 6 # label 7"), request(0, 1, 5, 6));
     // Other bytes are no blanks.
     for line in [&b"\x0bpass"[..], b"pass\x0c", b"pass\0", b"\xc2\xa0pass"] {
         assert_eq!(fault(line), Fault::UnknownWord, "{line:?}");
@@ -159,6 +172,8 @@ fn repeats() {
     assert_eq!(read_line(b"respond 1 2 * 3"), Ok(Line::Acts(respond(1, 2, 0), 3)));
     assert_eq!(read_line(b"respond 1 2 hold * 3"), Ok(Line::Acts(respond(1, 2, 1), 3)));
     assert_eq!(read_line(b"request 0 all 1 2 * 3"), Ok(Line::Acts(request(0, 63, 1, 2), 3)));
+    let labelled = Line::Acts(labelled(0, 63, 1, 2, 9), 3);
+    assert_eq!(read_line(b"request 0 all 1 2 label 9 * 3"), Ok(labelled));
     assert_eq!(fault(b"pass *"), Fault::MissingField);
     assert_eq!(fault(b"pass * # 6"), Fault::MissingField);
     assert_eq!(fault(b"pass * x"), Fault::NotANumber);
@@ -185,6 +200,8 @@ fn fields_from_left_to_right() {
         "request 0",
         "request 0 1",
         "request 0 all 5",
+        "request 0 all 5 6 label",
+        "request 0 all 5 6 label # 7",
         "arbitrate",
         "respond",
         "respond 1",
@@ -195,6 +212,19 @@ fn fields_from_left_to_right() {
     for line in [
         "nodes 2 3",
         "request 0 1 5 6 7",
+        "request 0 1 5 6 Label 7",
+        "request 0 1 5 6 labels 7",
+        "request 0 1 5 6 label7",
+        "request 0 1 5 6 hold",
+        "request 0 1 5 6 label 7 8",
+        "request 0 1 5 6 label 7 label 8",
+        "request 0 1 5 6 label 7 hold",
+        "request 0 1 5 6 * 2 label 7",
+        "respond 1 1 label 7",
+        "arbitrate 0 label 7",
+        "clock 0 label 7",
+        "change 1 label 7",
+        "pass label 7",
         "arbitrate 0 0",
         "respond 1 1 0",
         "respond 1 1 hold hold",
@@ -210,13 +240,23 @@ fn fields_from_left_to_right() {
         assert_eq!(fault(line.as_bytes()), Fault::ExtraField, "{line}");
     }
     assert_eq!(fault(b"respond 1 hold"), Fault::NotANumber);
+    assert_eq!(fault(b"request 0 1 5 label 7"), Fault::NotANumber);
+    assert_eq!(fault(b"request label 7 0 1 5 6"), Fault::NotANumber);
+    assert_eq!(fault(b"label 7"), Fault::UnknownWord);
     assert_eq!(fault(b"change x"), Fault::NotANumber);
+    assert_eq!(fault(b"change label 7"), Fault::NotANumber);
     assert_eq!(fault(b"clock all"), Fault::NotANumber);
     assert_eq!(fault(b"request 256 x"), Fault::TooLarge);
     assert_eq!(fault(b"request x 256"), Fault::NotANumber);
     assert_eq!(fault(b"request 256"), Fault::TooLarge);
     // A repeat where a field is still to come.
     assert_eq!(fault(b"request 0 1 5 * 2"), Fault::NotANumber);
+    assert_eq!(fault(b"request 0 1 5 6 label * 2"), Fault::NotANumber);
+    // What comes first counts.
+    assert_eq!(fault(b"request 0 1 5 6 label x 8"), Fault::NotANumber);
+    assert_eq!(fault(b"request 0 1 5 6 label 256 8"), Fault::TooLarge);
+    assert_eq!(fault(b"request 0 1 5 6 label 7 * 0"), Fault::RepeatOfZero);
+    assert_eq!(fault(b"request 0 1 5 6 label 64 *"), Fault::MissingField);
 }
 
 #[test]
@@ -294,6 +334,30 @@ fn faults_and_their_lines() {
             "line 2: refused 5: request 1 2 0 0: no address 2, addresses are 0 to 1 and all",
         ),
         (
+            "nodes 2\nrequest 1 0 5 6 label 64\n",
+            "line 2: refused 13: request 1 0 5 6 label 64: no label 64, labels are 0 to 63",
+        ),
+        (
+            "nodes 2\nrequest 1 all 5 6 label 0xFF\n",
+            "line 2: refused 13: request 1 all 5 6 label 0xFF: no label 255, labels are 0 to 63",
+        ),
+        (
+            "nodes 2\nrequest 1 2 5 6 label 64\n",
+            "line 2: refused 5: request 1 2 5 6 label 64: no address 2, addresses are 0 to 1 and all",
+        ),
+        (
+            "nodes 2\nrequest 2 2 5 6 label 64\n",
+            "line 2: refused 4: request 2 2 5 6 label 64: no node 2, nodes are 0 to 1",
+        ),
+        (
+            "nodes 2\nrequest 1 0 5 6 label 256\n",
+            "line 2: number too large: \"256\", the label of request, at most 255",
+        ),
+        ("nodes 2\nrequest 1 0 5 6 label\n", "line 2: missing field: the label of request"),
+        ("nodes 2\nrequest 1 0 5 6 label 64 x\n", "line 2: extra field: \"x\""),
+        ("nodes 2\nrequest 1 0 5 6 label 64 * 0\n", "line 2: repeat of 0"),
+        ("request 1 0 5 6 label 64\n", "line 1: no nodes line"),
+        (
             "nodes 2\nchange 64\n",
             "line 2: refused 5: change 64: no address 64, addresses are 0 to 1 and all",
         ),
@@ -325,6 +389,8 @@ fn the_field() {
         ("request 1", "the address of request", "255"),
         ("request 1 all", "the header of request", "4294967295"),
         ("request 1 all 5", "the data of request", "4294967295"),
+        ("request 1 all 5 6 label", "the label of request", "255"),
+        ("request 1 all 5 6 label 7 *", "the count after *", "4294967295"),
         ("respond", "the node of respond", "255"),
         ("respond 1", "the acknowledgement of respond", "255"),
         ("change", "the address of change", "255"),
@@ -353,6 +419,8 @@ fn the_field() {
     // Where a field is still to come, a repeat is a word in its place.
     assert_eq!(flaw(b"clock * 2"), "not a number: \"*\", the node of clock");
     assert_eq!(flaw(b"request 0 1 5 * 2"), "not a number: \"*\", the data of request");
+    assert_eq!(flaw(b"request 0 1 5 6 label * 2"), "not a number: \"*\", the label of request");
+    assert_eq!(flaw(b"request 0 1 5 label 7"), "not a number: \"label\", the data of request");
 }
 
 #[test]
@@ -366,6 +434,16 @@ fn the_word() {
         ("clock 0 hold", "extra field: \"hold\""),
         ("respond 1 1 hold hold", "extra field: \"hold\""),
         ("respond 1 1 Hold", "extra field: \"Hold\""),
+        ("request 0 1 5 6 7 label", "extra field: \"7\""),
+        ("request 0 1 5 6 Label 7", "extra field: \"Label\""),
+        ("request 0 1 5 6 label 7 8", "extra field: \"8\""),
+        ("request 0 1 5 6 label 7 label 7", "extra field: \"label\""),
+        ("request 0 1 5 6 * 2 label 7", "extra field: \"label\""),
+        (
+            "request 0 1 5 6 label 7*2",
+            "not a number: \"7*2\" (write spaces around *), the label of request",
+        ),
+        ("respond 1 1 label 7", "extra field: \"label\""),
         ("nodes 2 * 1", "extra field: \"*\""),
         ("pass * 2 * 3", "extra field: \"*\""),
         ("pass * 2 3", "extra field: \"3\""),
@@ -466,6 +544,10 @@ fn the_statement() {
             "5: request 8 0xFF 1 2: no address 255, addresses are 0 to 8 and all",
         ),
         ("change 9 * 2", "5: change 9 * 2: no address 9, addresses are 0 to 8 and all"),
+        (
+            " request 8 all\t1 2 label\r0X40 * 2 # 13",
+            "13: request 8 all 1 2 label 0X40 * 2: no label 64, labels are 0 to 63",
+        ),
         ("respond  0 16 hold", "6: respond  0 16 hold: no acknowledgement 16, they are 0 to 15"),
     ] {
         let expected = format!("line 2: refused {cause}");
@@ -587,10 +669,15 @@ fn whole_blocks_before_a_fault_are_out() {
 
 #[test]
 fn each_line_printed() {
-    let packet = |address| Packet { address, header: 0x1f, data: u32::MAX };
+    let request = |node, address, label| {
+        let packet = packet(address, 0x1f, u32::MAX, label);
+        Action::Request { node, packet }
+    };
     for (action, line) in [
-        (Action::Request { node: 0, packet: packet(1) }, "request 0 1 31 4294967295\n"),
-        (Action::Request { node: 0, packet: packet(63) }, "request 0 all 31 4294967295\n"),
+        (request(0, 1, 0), "request 0 1 31 4294967295\n"),
+        (request(0, 63, 0), "request 0 all 31 4294967295\n"),
+        (request(0, 1, 1), "request 0 1 31 4294967295 label 1\n"),
+        (request(62, 63, 63), "request 62 all 31 4294967295 label 63\n"),
         (Action::Arbitrate { node: 62 }, "arbitrate 62\n"),
         (Action::Respond { node: 1, ack: 15, hold: false }, "respond 1 15\n"),
         (Action::Respond { node: 1, ack: 15, hold: true }, "respond 1 15 hold\n"),
@@ -614,10 +701,12 @@ fn each_line_printed() {
 
 #[test]
 fn listings() {
-    let text = "nodes 2\nrequest 0 all 1 2\nchange\nrespond 1 3 hold\npass\n";
+    let text = "nodes 2\nrequest 0 all 1 2\nrequest 1 0 3 4 label 5\nchange\nrespond 1 3 hold\n";
     let file = composed(text);
     assert_eq!(list(&file), text.as_bytes());
-    // A listing is not looked at by 7, but by the file's numbers and by 2 to 6.
+    // Only a label that is not 0 is printed.
+    assert_eq!(composed(text.replace("1 2\n", "1 2 label 0x0\n")), file);
+    // A listing is not looked at by 7, but by the file's numbers and by 2 to 6 and 13.
     assert_eq!(list(b""), b"refused 0 8\n");
     assert_eq!(list(&file[..511]), b"refused 0 8\n");
     assert_eq!(list(&[0; BLOCK]), b"refused 0 1\n");
@@ -627,7 +716,37 @@ fn listings() {
     let mut block = [0; BLOCK];
     runfile::write_unchecked(&mut block, 0, 2, &[pass(), Record { node: 1, ..pass() }, lose()]);
     assert_eq!(list(&block), b"nodes 2\npass\nrefused 1 3\n");
+    for (record, number) in [
+        (labelled(1, 0, 0, 0, 64), 13),
+        (labelled(1, 2, 0, 0, 64), 5),
+        (Record { label: 1, ..clock(1) }, 3),
+    ] {
+        runfile::write_unchecked(&mut block, 0, 2, &[pass(), record, lose()]);
+        assert_eq!(list(&block), format!("nodes 2\npass\nrefused 1 {number}\n").as_bytes());
+    }
     let mut after = file.clone();
     after.extend(&file);
     assert_eq!(list(&after), [text.as_bytes(), b"refused 4 10\n"].concat());
+}
+
+/// Every label, as text and as file.
+#[test]
+fn labels_composed_and_listed() {
+    for label in 0..=63 {
+        let run = [labelled(0, 1, 5, 6, label), labelled(1, 63, 7, 8, 63 - label), pass()];
+        let file = runfile::write_file(2, &run).expect("the writer takes it");
+        let words = |label| match label {
+            0 => String::new(),
+            _ => format!(" label {label}"),
+        };
+        let (one, other) = (words(label), words(63 - label));
+        let text = format!("nodes 2\nrequest 0 1 5 6{one}\nrequest 1 all 7 8{other}\npass\n");
+        assert_eq!(composed(&text), file);
+        assert_eq!(list(&file), text.as_bytes());
+        let text = format!(
+            "nodes 2\nrequest 0 1 5 6 label {label}\nrequest 1 63 7 8 label {:#x}\npass",
+            63 - label
+        );
+        assert_eq!(composed(text), file);
+    }
 }

@@ -1,9 +1,9 @@
-//! The twelve numbers at single steps: their order when several conditions hold, what a refusal
+//! The thirteen numbers at single steps: their order when several conditions hold, what a refusal
 //! leaves, and 12.
 
 mod common;
 
-use bench_model::bus::{Action, Bus, Check, Marks, Mode, Packet, Phase, Record, Refusal, Signal};
+use bench_model::bus::{Action, Bus, Check, Head, Marks, Mode, Phase, Record, Refusal, Signal};
 use common::*;
 
 /// What a step on this state says, and that a refusal leaves the state as it was.
@@ -33,6 +33,7 @@ fn examples_of_the_table() {
     assert_eq!(Refusal::BlockCheck.number(), 9);
     assert_eq!(Refusal::BlockOrder.number(), 10);
     assert_eq!(Refusal::BlockContent.number(), 11);
+    assert_eq!(refused(&fresh(2), labelled(0, 1, 0, 0, 64)), 13);
 }
 
 #[test]
@@ -51,7 +52,8 @@ fn in_order_from_12_to_7() {
         address: 2,
         ack: 16,
         hold: 2,
-        zeros: [0, 0, 1],
+        label: 64,
+        zeros: [0, 1],
         header: 1,
         data: 1,
     };
@@ -59,9 +61,13 @@ fn in_order_from_12_to_7() {
     assert_eq!(refused(&fresh(2), all), 2);
     assert_eq!(refused(&fresh(2), Record { kind: 3, ..all }), 3);
     assert_eq!(refused(&fresh(2), Record { kind: 1, ..all }), 3);
-    let request = Record { ack: 0, hold: 0, zeros: [0; 3], kind: 1, ..all };
+    let request = Record { ack: 0, hold: 0, zeros: [0; 2], kind: 1, ..all };
     assert_eq!(refused(&fresh(2), request), 4);
     assert_eq!(refused(&fresh(2), Record { node: 1, ..request }), 5);
+    let full = after(2, &[labelled(1, 0, 0, 0, 5)]);
+    let request = Record { node: 1, address: 0, ..request };
+    assert_eq!(refused(&full, request), 13);
+    assert_eq!(refused(&full, Record { label: 63, ..request }), 7);
     let respond = Record { kind: 3, node: 2, ack: 16, hold: 2, ..Record::default() };
     assert_eq!(refused(&fresh(2), respond), 4);
     assert_eq!(refused(&fresh(2), Record { node: 1, ..respond }), 6);
@@ -79,7 +85,8 @@ fn in_order_from_12_to_7_while_the_mark_is_set() {
     let held = respond(0, 15, 1);
     assert_eq!(refused(&no_state, held), 12);
     assert_eq!(refused(&answering, Record { kind: 11, ..held }), 2);
-    assert_eq!(refused(&answering, Record { zeros: [0, 1, 0], ..held }), 3);
+    assert_eq!(refused(&answering, Record { zeros: [1, 0], ..held }), 3);
+    assert_eq!(refused(&answering, Record { label: 64, ..held }), 3);
     assert_eq!(refused(&answering, Record { address: 2, ..held }), 3);
     assert_eq!(refused(&answering, Record { node: 2, ..held }), 4);
     assert_eq!(refused(&answering, Record { ack: 16, ..held }), 6);
@@ -99,18 +106,18 @@ fn kinds_are_1_to_10() {
 /// "Fields that a kind doesn't name are 0": which ones a kind names, by hand.
 #[test]
 fn fields_that_a_kind_does_not_name() {
-    // node, address, acknowledgement, hold, header, data
-    let named: [[u8; 6]; 10] = [
-        [1, 1, 0, 0, 1, 1], // request
-        [1, 0, 0, 0, 0, 0], // arbitrate
-        [1, 0, 1, 1, 0, 0], // respond
-        [1, 0, 0, 0, 0, 0], // clock
-        [0, 0, 0, 0, 0, 0], // pass
-        [0, 0, 0, 0, 0, 0], // lose
-        [0, 1, 0, 0, 0, 0], // change
-        [0, 0, 0, 0, 0, 0], // grant
-        [0, 0, 0, 0, 0, 0], // gap
-        [0, 0, 0, 0, 0, 0], // reset
+    // node, address, acknowledgement, hold, label, header, data
+    let named: [[u8; 7]; 10] = [
+        [1, 1, 0, 0, 1, 1, 1], // request
+        [1, 0, 0, 0, 0, 0, 0], // arbitrate
+        [1, 0, 1, 1, 0, 0, 0], // respond
+        [1, 0, 0, 0, 0, 0, 0], // clock
+        [0, 0, 0, 0, 0, 0, 0], // pass
+        [0, 0, 0, 0, 0, 0, 0], // lose
+        [0, 1, 0, 0, 0, 0, 0], // change
+        [0, 0, 0, 0, 0, 0, 0], // grant
+        [0, 0, 0, 0, 0, 0, 0], // gap
+        [0, 0, 0, 0, 0, 0, 0], // reset
     ];
     for (kind, names) in (1..).zip(named) {
         let bare = Record { kind, ..Record::default() };
@@ -119,6 +126,7 @@ fn fields_that_a_kind_does_not_name() {
             Record { address: 1, ..bare },
             Record { ack: 1, ..bare },
             Record { hold: 1, ..bare },
+            Record { label: 1, ..bare },
             Record { header: 1 << 24, ..bare },
             Record { data: 1 << 24, ..bare },
         ];
@@ -127,12 +135,69 @@ fn fields_that_a_kind_does_not_name() {
             assert_eq!(said.is_ok(), named == 1, "kind {kind}: {record:?}");
             assert!(named == 1 || said == Err(Refusal::FieldNotNamed));
         }
-        for place in 0..3 {
+        for place in 0..2 {
             let mut record = bare;
             record.zeros[place] = 1;
             assert_eq!(record.look(2), Err(Refusal::FieldNotNamed));
         }
     }
+}
+
+/// "Byte 5 of an action record becomes the label for kind 1"; in other kinds it is a field that they
+/// do not name. Bytes 6 and 7 are zeros for all.
+#[test]
+fn bytes_5_to_7_of_each_kind() {
+    for kind in 1..=10 {
+        for byte in [1, 63, 64, 255] {
+            let with = |place: usize| {
+                let mut bytes = [0; 16];
+                (bytes[0], bytes[place]) = (kind, byte);
+                Record::from_bytes(&bytes).look(2).err()
+            };
+            let label = match (kind, byte) {
+                (1, 1 | 63) => None,
+                (1, _) => Some(Refusal::Label),
+                _ => Some(Refusal::FieldNotNamed),
+            };
+            assert_eq!(with(5), label, "kind {kind}, byte 5 is {byte}");
+            assert_eq!(with(6), Some(Refusal::FieldNotNamed), "kind {kind}, byte 6 is {byte}");
+            assert_eq!(with(7), Some(Refusal::FieldNotNamed), "kind {kind}, byte 7 is {byte}");
+        }
+    }
+}
+
+#[test]
+fn labels_are_0_to_63() {
+    for label in 0..=255 {
+        let said = labelled(0, 1, 0, 0, label).look(2);
+        let expected = match label {
+            0..=63 => Ok(Action::Request { node: 0, packet: packet(1, 0, 0, label) }),
+            _ => Err(Refusal::Label),
+        };
+        assert_eq!(said, expected);
+    }
+}
+
+/// "13, label over 63, looked at after 5": 2, 3, 4, 5, 13, 6, then 7.
+#[test]
+fn a_label_over_63_in_its_place() {
+    let wrong = labelled(1, 63, 0, 0, 64);
+    for bus in [fresh(2), after(2, &[request(1, 0, 0, 0)]), after(2, &case_b()[..5])] {
+        // Open on the first bus but for its label, and not on the others.
+        assert_eq!(refused(&bus, wrong), 13);
+        assert_eq!(refused(&bus, Record { address: 2, ..wrong }), 5);
+        assert_eq!(refused(&bus, Record { node: 2, ..wrong }), 4);
+        assert_eq!(refused(&bus, Record { zeros: [1, 0], ..wrong }), 3);
+        // What 6 looks at is not named here.
+        assert_eq!(refused(&bus, Record { ack: 16, ..wrong }), 3);
+        assert_eq!(refused(&bus, Record { hold: 2, ..wrong }), 3);
+        assert_eq!(refused(&bus, Record { kind: 11, ..wrong }), 2);
+        assert_eq!(refused(&Bus { n: 64, ..bus }, wrong), 12);
+    }
+    // From Holding too.
+    let holding = after(2, &held());
+    assert_eq!(refused(&holding, labelled(1, 0, 3, 4, 64)), 13);
+    assert_eq!(holding.clone().step(&labelled(1, 0, 3, 4, 63)), Ok(None));
 }
 
 #[test]
@@ -228,7 +293,7 @@ fn no_state() {
         ..fresh(3)
     };
     let mut in_buffer = fresh(3);
-    in_buffer.nodes[2].buffer = Some(Packet { address: 3, header: 0, data: 0 });
+    in_buffer.nodes[2].buffer = Some(packet(3, 0, 0, 0));
     let mut in_sending = fresh(3);
     in_sending.nodes[2].sending.address = 62;
     let states = [
@@ -285,6 +350,78 @@ fn no_state() {
     }
 }
 
+/// A bus of 3 for each place that can hold a label, with this one there.
+fn labels_held(label: u8) -> Vec<(&'static str, Bus)> {
+    let head = Head { header: 5, label };
+    let held = packet(1, 5, 6, label);
+    let of = |change: &dyn Fn(&mut Bus)| {
+        let mut bus = fresh(3);
+        change(&mut bus);
+        bus
+    };
+    let in_mode = |mode| of(&|bus| bus.nodes[2].mode = mode);
+    let under_way = |check| {
+        let signal = Signal::Header(head, check);
+        of(&|bus| bus.phase = Phase::Delivering { sender: 0, signal, receiver: 1 })
+    };
+    vec![
+        ("buffer", of(&|bus| bus.nodes[2].buffer = Some(held))),
+        ("packet being sent, in Rest", of(&|bus| bus.nodes[2].sending = held)),
+        (
+            "packet being sent, in Sending",
+            of(&|bus| {
+                bus.nodes[2].mode = Mode::Sending { step: 3 };
+                bus.nodes[2].sending = held;
+            }),
+        ),
+        ("BodyOwn", in_mode(Mode::BodyOwn { head })),
+        ("BodyAll", in_mode(Mode::BodyAll { head })),
+        ("TailOwn, good", in_mode(Mode::TailOwn { head, data: Some(6) })),
+        ("TailOwn, bad", in_mode(Mode::TailOwn { head, data: None })),
+        ("TailAll, good", in_mode(Mode::TailAll { head, data: Some(6) })),
+        ("TailAll, bad", in_mode(Mode::TailAll { head, data: None })),
+        ("Header under way, good", under_way(Check::Good)),
+        ("Header under way, bad", under_way(Check::Bad)),
+    ]
+}
+
+/// "A state handed in that holds a label over 63 is refused by 12."
+#[test]
+fn no_state_by_its_label() {
+    for label in [64, 65, 128, 255] {
+        for (place, bus) in labels_held(label) {
+            assert!(!bus.is_state(), "{place}: {label}");
+            // Whatever the action.
+            for record in [Record::default(), request(1, 0, 0, 0), labelled(1, 0, 0, 0, 64), pass()]
+            {
+                assert_eq!(refused(&bus, record), 12, "{place}: {label}");
+            }
+        }
+    }
+    for label in [0, 1, 62, 63] {
+        for (place, bus) in labels_held(label) {
+            assert!(bus.is_state(), "{place}: {label}");
+            assert_eq!(refused(&bus, Record::default()), 2, "{place}: {label}");
+            assert_eq!(bus.clone().step(&request(1, 0, 0, 0)), Ok(None), "{place}: {label}");
+        }
+    }
+}
+
+/// At a node from n on: not looked at.
+#[test]
+fn labels_from_n_on() {
+    let at_node_2 = |(_, bus): &(&str, Bus)| bus.phase == Phase::Idle;
+    for (place, bus) in labels_held(64).into_iter().filter(at_node_2) {
+        let bus = Bus { n: 2, ..bus };
+        assert!(bus.is_state(), "{place}");
+        let mut after = bus.clone();
+        for record in case_b_labelled() {
+            after.step(&record).expect("as on a fresh bus");
+        }
+        assert_eq!(after.nodes[2], bus.nodes[2], "{place}");
+    }
+}
+
 /// "Records and marks of nodes from n on are neither read nor changed".
 #[test]
 fn nodes_from_n_on() {
@@ -293,8 +430,8 @@ fn nodes_from_n_on() {
     (bus.won, bus.pending, bus.holder, bus.misled) = (beyond, beyond, beyond, beyond);
     for node in &mut bus.nodes[2..] {
         node.mode = Mode::Sending { step: 200 };
-        node.buffer = Some(Packet { address: 200, header: 0, data: 0 });
-        node.sending.address = 200;
+        node.buffer = Some(packet(200, 0, 0, 200));
+        node.sending = packet(200, 0, 0, 200);
     }
     let (records, mut seen) = (bus.nodes, bus.clone());
     assert_eq!(refused(&bus, reset()), 7, "no won mark below n");

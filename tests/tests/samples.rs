@@ -20,6 +20,7 @@ fn samples_as_they_stand() {
         "case-f2",
         "concatenated-response",
         "fairness-interval",
+        "labels",
         "lost-ack",
         "misled-node",
         "transaction",

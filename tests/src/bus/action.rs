@@ -1,6 +1,6 @@
-//! Action records and what they say: refusals 2 to 6.
+//! Action records and what they say: refusals 2 to 6 and 13.
 
-use super::node::{Packet, ALL_NODES};
+use super::packet::{is_address, is_label, Head, Packet};
 use super::refusal::Refusal;
 
 /// The record of an action as a run file holds it: any bytes at all.
@@ -11,7 +11,8 @@ pub struct Record {
     pub address: u8,
     pub ack: u8,
     pub hold: u8,
-    pub zeros: [u8; 3],
+    pub label: u8,
+    pub zeros: [u8; 2],
     pub header: u32,
     pub data: u32,
 }
@@ -31,19 +32,14 @@ pub enum Action {
     Reset,
 }
 
-/// "an address neither below n nor 63" is none.
-pub fn is_address(address: u8, n: u8) -> bool {
-    address < n || address == ALL_NODES
-}
-
 impl Record {
-    /// Refusals 2 to 6, in their order.
+    /// Refusals 2 to 6, in their order, with 13 "looked at after 5".
     pub fn look(&self, n: u8) -> Result<Action, Refusal> {
-        let Record { kind, node, address, ack, hold, header, data, .. } = *self;
+        let Record { kind, node, address, ack, hold, label, header, data, .. } = *self;
         // The record as it would be with nothing in it but the fields that its kind names.
         let bare = Record { kind, ..Record::default() };
         let named = match kind {
-            1 => Record { node, address, header, data, ..bare },
+            1 => Record { node, address, label, header, data, ..bare },
             2 | 4 => Record { node, ..bare },
             3 => Record { node, ack, hold, ..bare },
             7 => Record { address, ..bare },
@@ -60,11 +56,17 @@ impl Record {
         if !is_address(address, n) {
             return Err(Refusal::Address);
         }
+        if !is_label(label) {
+            return Err(Refusal::Label);
+        }
         if ack > 15 || hold > 1 {
             return Err(Refusal::AckOrHold);
         }
         Ok(match kind {
-            1 => Action::Request { node, packet: Packet { address, header, data } },
+            1 => Action::Request {
+                node,
+                packet: Packet { address, head: Head { header, label }, data },
+            },
             2 => Action::Arbitrate { node },
             3 => Action::Respond { node, ack, hold: hold == 1 },
             4 => Action::Clock { node },
@@ -78,23 +80,25 @@ impl Record {
     }
 
     /// "kind, node, address, acknowledgement, hold, three zeros, header (4 bytes), data (4 bytes)",
-    /// "fields little-endian".
+    /// "fields little-endian"; the first of the zeros, byte 5, "becomes the label".
     pub fn from_bytes(bytes: &[u8; 16]) -> Record {
-        let [kind, node, address, ack, hold, z0, z1, z2, h0, h1, h2, h3, d0, d1, d2, d3] = *bytes;
+        let [kind, node, address, ack, hold, label, z0, z1, h0, h1, h2, h3, d0, d1, d2, d3] =
+            *bytes;
         Record {
             kind,
             node,
             address,
             ack,
             hold,
-            zeros: [z0, z1, z2],
+            label,
+            zeros: [z0, z1],
             header: u32::from_le_bytes([h0, h1, h2, h3]),
             data: u32::from_le_bytes([d0, d1, d2, d3]),
         }
     }
 
     pub fn to_bytes(&self) -> [u8; 16] {
-        let [z0, z1, z2] = self.zeros;
+        let [z0, z1] = self.zeros;
         let [h0, h1, h2, h3] = self.header.to_le_bytes();
         let [d0, d1, d2, d3] = self.data.to_le_bytes();
         [
@@ -103,9 +107,9 @@ impl Record {
             self.address,
             self.ack,
             self.hold,
+            self.label,
             z0,
-            z1,
-            z2, //
+            z1, //
             h0,
             h1,
             h2,
@@ -122,8 +126,9 @@ impl From<Action> for Record {
     fn from(action: Action) -> Record {
         let of = |kind| Record { kind, ..Record::default() };
         match action {
-            Action::Request { node, packet: Packet { address, header, data } } => {
-                Record { node, address, header, data, ..of(1) }
+            Action::Request { node, packet: Packet { address, head, data } } => {
+                let Head { header, label } = head;
+                Record { node, address, label, header, data, ..of(1) }
             }
             Action::Arbitrate { node } => Record { node, ..of(2) },
             Action::Respond { node, ack, hold } => Record { node, ack, hold: hold.into(), ..of(3) },

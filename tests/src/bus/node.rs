@@ -1,18 +1,8 @@
 //! "What a node does with a signal".
 
+use super::packet::{Head, Packet, ALL_NODES};
 use super::report::Report;
 use super::signal::{Check, Signal};
-
-/// "Address 63 means all nodes".
-pub const ALL_NODES: u8 = 63;
-
-/// What a request hands over: the address of the packet, its header and its data.
-#[derive(Clone, Copy, PartialEq, Eq, Hash, Debug, Default)]
-pub struct Packet {
-    pub address: u8,
-    pub header: u32,
-    pub data: u32,
-}
 
 /// "A node's record holds its mode with what that mode remembers, its buffer (one packet or empty)
 /// and the packet it is sending (kept until the next replaces it; all 0 on a fresh bus)."
@@ -24,8 +14,11 @@ pub struct Node {
 }
 
 impl Node {
-    pub const FRESH: Node =
-        Node { mode: Mode::Rest, buffer: None, sending: Packet { address: 0, header: 0, data: 0 } };
+    pub const FRESH: Node = Node {
+        mode: Mode::Rest,
+        buffer: None,
+        sending: Packet { address: 0, head: Head { header: 0, label: 0 }, data: 0 },
+    };
 }
 
 /// In brackets: the listings' state.
@@ -54,18 +47,18 @@ pub enum Mode {
     HeadAll,
     /// (4RD)
     BodyOwn {
-        header: u32,
+        head: Head,
     },
     BodyAll {
-        header: u32,
+        head: Head,
     },
     /// `data` is None when the data were bad.
     TailOwn {
-        header: u32,
+        head: Head,
         data: Option<u32>,
     },
     TailAll {
-        header: u32,
+        head: Head,
         data: Option<u32>,
     },
     /// (WSA)
@@ -98,14 +91,18 @@ pub enum Effect {
     Pending,
 }
 
-impl Mode {
+impl Node {
     /// The reception charts: the mode after the signal, for node `own`, and what else comes of it.
-    pub fn receive(self, own: u8, signal: Signal) -> (Mode, Effect) {
+    /// miss and ack end with the label of the packet that the node is sending; good, dcrc and broad
+    /// with the one that came with the header.
+    pub fn receive(&self, own: u8, signal: Signal) -> (Mode, Effect) {
         use Mode::*;
         use Signal::*;
+        let label = self.sending.head.label;
         let quiet = |mode| (mode, Effect::Nothing);
         let report = |mode, report| (mode, Effect::Report(report));
-        match self {
+        let miss = |mode| report(mode, Report::Miss { label });
+        match self.mode {
             // "Rest: Start → Opened; else stay."
             Rest => match signal {
                 Start => quiet(Opened),
@@ -115,14 +112,14 @@ impl Mode {
             AwaitAck => match signal {
                 Prefix => quiet(AwaitAck),
                 Start => quiet(AckBody),
-                Gap => report(Rest, Report::Miss),
-                _ => report(Wait, Report::Miss),
+                Gap => miss(Rest),
+                _ => miss(Wait),
             },
             // "AckBody: Gap: miss, Rest; another line signal: miss, Wait; else → AckEnd,
             // remembering a if it was a good Ack."
             AckBody => match signal {
-                Gap => report(Rest, Report::Miss),
-                Start | End | Prefix => report(Wait, Report::Miss),
+                Gap => miss(Rest),
+                Start | End | Prefix => miss(Wait),
                 Ack(ack, Check::Good) => quiet(AckEnd { good: Some(ack) }),
                 _ => quiet(AckEnd { good: None }),
             },
@@ -130,10 +127,10 @@ impl Mode {
             // Wait." "From AckEnd, Prefix after a good Ack now reports ack and goes to a new mode
             // Listening".
             AckEnd { good } => match (signal, good) {
-                (End, Some(ack)) => report(Wait, Report::Ack(ack)),
-                (Prefix, Some(ack)) => report(Listening, Report::Ack(ack)),
-                (Gap, _) => report(Rest, Report::Miss),
-                _ => report(Wait, Report::Miss),
+                (End, Some(ack)) => report(Wait, Report::Ack { ack, label }),
+                (Prefix, Some(ack)) => report(Listening, Report::Ack { ack, label }),
+                (Gap, _) => miss(Rest),
+                _ => miss(Wait),
             },
             // "Opened: Gap → Rest; another line signal → Wait; else → Addressed."
             Opened => match signal {
@@ -152,38 +149,38 @@ impl Mode {
             // "HeadOwn / HeadAll: good Header → BodyOwn / BodyAll; else Owed / Wait.
             // HeadAll on Gap → Rest."
             HeadOwn => match signal {
-                Header(header, Check::Good) => quiet(BodyOwn { header }),
+                Header(head, Check::Good) => quiet(BodyOwn { head }),
                 _ => quiet(Owed),
             },
             HeadAll => match signal {
-                Header(header, Check::Good) => quiet(BodyAll { header }),
+                Header(head, Check::Good) => quiet(BodyAll { head }),
                 Gap => quiet(Rest),
                 _ => quiet(Wait),
             },
             // "BodyOwn / BodyAll: Data, good or bad → TailOwn / TailAll; else Owed / Wait.
             // BodyAll on Gap → Rest."
-            BodyOwn { header } => match signal {
-                Data(data, Check::Good) => quiet(TailOwn { header, data: Some(data) }),
-                Data(_, Check::Bad) => quiet(TailOwn { header, data: None }),
+            BodyOwn { head } => match signal {
+                Data(data, Check::Good) => quiet(TailOwn { head, data: Some(data) }),
+                Data(_, Check::Bad) => quiet(TailOwn { head, data: None }),
                 _ => quiet(Owed),
             },
-            BodyAll { header } => match signal {
-                Data(data, Check::Good) => quiet(TailAll { header, data: Some(data) }),
-                Data(_, Check::Bad) => quiet(TailAll { header, data: None }),
+            BodyAll { head } => match signal {
+                Data(data, Check::Good) => quiet(TailAll { head, data: Some(data) }),
+                Data(_, Check::Bad) => quiet(TailAll { head, data: None }),
                 Gap => quiet(Rest),
                 _ => quiet(Wait),
             },
             // "TailOwn: End or Prefix: report good h d, or dcrc h for bad data, and go to Told;
             // else Owed."
-            TailOwn { header, data } => match (signal, data) {
-                (End | Prefix, Some(data)) => report(Told, Report::Good { header, data }),
-                (End | Prefix, None) => report(Told, Report::Dcrc { header }),
+            TailOwn { head, data } => match (signal, data) {
+                (End | Prefix, Some(data)) => report(Told, Report::Good { head, data }),
+                (End | Prefix, None) => report(Told, Report::Dcrc { head }),
                 _ => quiet(Owed),
             },
             // "TailAll: End or Prefix: report broad h d if the data were good, else nothing, and go
             // to Rest; Gap → Rest; else Wait."
-            TailAll { header, data } => match (signal, data) {
-                (End | Prefix, Some(data)) => report(Rest, Report::Broad { header, data }),
+            TailAll { head, data } => match (signal, data) {
+                (End | Prefix, Some(data)) => report(Rest, Report::Broad { head, data }),
                 (End | Prefix | Gap, _) => quiet(Rest),
                 _ => quiet(Wait),
             },
@@ -194,7 +191,7 @@ impl Mode {
             },
             // "Sending, Told, Answering, Acking, Holding, Spurious stay on every signal."
             Owed | Sending { .. } | Told | Answering | Acking { .. } | Holding | Spurious => {
-                quiet(self)
+                quiet(self.mode)
             }
             // "Listening: Start → Opened, Prefix stay, Gap → Rest, else Wait."
             Listening => match signal {

@@ -1,4 +1,4 @@
-//! "The twelve numbers".
+//! "The twelve numbers", and request 3's: "13, label over 63".
 
 #[derive(Clone, Copy, PartialEq, Eq, Hash, Debug)]
 pub enum Refusal {
@@ -6,7 +6,7 @@ pub enum Refusal {
     NodeCount = 1,
     /// Kind not 1–10.
     Kind = 2,
-    /// A field that the kind doesn't name, or one of the record's three zeros, is not 0.
+    /// A field that the kind doesn't name, or one of the record's zeros, is not 0.
     FieldNotNamed = 3,
     /// Node not below n.
     Node = 4,
@@ -26,6 +26,8 @@ pub enum Refusal {
     BlockContent = 11,
     /// A state handed in that is none.
     State = 12,
+    /// Label over 63.
+    Label = 13,
 }
 
 impl Refusal {

@@ -1,15 +1,17 @@
 //! What an action reports.
 
+use super::packet::Head;
+
 #[derive(Clone, Copy, PartialEq, Eq, Hash, Debug)]
 pub enum Report {
     Won,
     Lost,
-    Sent,
-    Ack(u8),
-    Miss,
-    Good { header: u32, data: u32 },
-    Dcrc { header: u32 },
-    Broad { header: u32, data: u32 },
+    Sent { label: u8 },
+    Ack { ack: u8, label: u8 },
+    Miss { label: u8 },
+    Good { head: Head, data: u32 },
+    Dcrc { head: Head },
+    Broad { head: Head, data: u32 },
 }
 
 impl Report {
@@ -18,18 +20,31 @@ impl Report {
         match self {
             Report::Won => "won",
             Report::Lost => "lost",
-            Report::Sent => "sent",
-            Report::Ack(_) => "ack",
-            Report::Miss => "miss",
+            Report::Sent { .. } => "sent",
+            Report::Ack { .. } => "ack",
+            Report::Miss { .. } => "miss",
             Report::Good { .. } => "good",
             Report::Dcrc { .. } => "dcrc",
             Report::Broad { .. } => "broad",
         }
     }
 
+    /// "The reports sent, ack, miss, good, dcrc and broad end with it".
+    pub fn label(self) -> Option<u8> {
+        match self {
+            Report::Won | Report::Lost => None,
+            Report::Sent { label } | Report::Ack { label, .. } | Report::Miss { label } => {
+                Some(label)
+            }
+            Report::Good { head, .. } | Report::Dcrc { head } | Report::Broad { head, .. } => {
+                Some(head.label)
+            }
+        }
+    }
+
     /// "A *confirmation* is a report sent, ack or miss."
     pub fn is_confirmation(self) -> bool {
-        matches!(self, Report::Sent | Report::Ack(_) | Report::Miss)
+        matches!(self, Report::Sent { .. } | Report::Ack { .. } | Report::Miss { .. })
     }
 
     /// "A node is *told* by a report good, dcrc or broad."

@@ -1,5 +1,7 @@
 //! "Signals".
 
+use super::packet::Head;
+
 /// "Header, Data and Ack carry a check, good or bad."
 #[derive(Clone, Copy, PartialEq, Eq, Hash, Debug)]
 pub enum Check {
@@ -15,7 +17,7 @@ pub enum Signal {
     Gap,
     Dhead,
     Dest(u8),
-    Header(u32, Check),
+    Header(Head, Check),
     Data(u32, Check),
     Ack(u8, Check),
 }
@@ -34,7 +36,7 @@ impl Signal {
     /// The same signal with a bad check, if it carries one.
     pub fn with_bad_check(self) -> Signal {
         match self {
-            Signal::Header(header, _) => Signal::Header(header, Check::Bad),
+            Signal::Header(head, _) => Signal::Header(head, Check::Bad),
             Signal::Data(data, _) => Signal::Data(data, Check::Bad),
             Signal::Ack(ack, _) => Signal::Ack(ack, Check::Bad),
             other => other,

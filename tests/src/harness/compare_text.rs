@@ -27,7 +27,11 @@ pub struct Options<'a> {
 }
 
 /// Numbers of document 01 that end a listing.
-const LISTED: [u8; 10] = [1, 2, 3, 4, 5, 6, 8, 9, 10, 11];
+const LISTED: [u8; 11] = [1, 2, 3, 4, 5, 6, 8, 9, 10, 11, 13];
+
+/// Listings that end without a refusal.
+const WHOLE: &str = "listing of a whole file, composed again";
+const LABELLED: &str = "listing of a whole file with labels, composed again";
 
 type Tally = BTreeMap<String, u64>;
 
@@ -42,7 +46,7 @@ impl Merge for Tally {
 /// What the texts and files must hit.
 fn all_aims() -> Vec<String> {
     let listed = LISTED.iter().map(|number| format!("listing refused by {number}"));
-    let whole = ["listing of a whole file, composed again".to_string()];
+    let whole = [WHOLE, LABELLED].map(String::from);
     aims::aims().into_iter().chain(listed).chain(whole).collect()
 }
 
@@ -253,8 +257,10 @@ fn one_file(options: &Options, index: u64, path: &Path, tally: &mut Tally) -> Re
             if let Some(why) = difference(&ran, &case.bytes, b"") {
                 return Err(fail(format!("COMPOSE of the listing: {why}")));
             }
-            let whole = "listing of a whole file, composed again".to_string();
-            *tally.entry(whole).or_default() += 1;
+            *tally.entry(WHOLE.into()).or_default() += 1;
+            if text.windows(7).any(|part| part == b" label ") {
+                *tally.entry(LABELLED.into()).or_default() += 1;
+            }
         }
     }
     Ok(())

@@ -63,11 +63,14 @@ pub struct Driver {
     pub bus: Bus,
     pub random: Random,
     pub style: Style,
+    /// Of the request proposed last.
+    label: u8,
 }
 
 impl Driver {
-    pub fn new(bus: Bus, random: Random, style: Style) -> Driver {
-        Driver { bus, random, style }
+    pub fn new(bus: Bus, mut random: Random, style: Style) -> Driver {
+        let label = random.label();
+        Driver { bus, random, style, label }
     }
 
     /// Plays some open action on the bus, and says which.
@@ -102,7 +105,13 @@ impl Driver {
     fn packet(&mut self) -> Packet {
         let all = self.random.percent(self.style.broadcast);
         let address = if all { ALL_NODES } else { self.any_node() };
-        Packet { address, header: self.random.word(), data: self.random.word() }
+        let mut packet = self.random.packet(address);
+        // Mostly the next label, as drivers give them: requests in flight are to be told apart.
+        if self.random.percent(60) {
+            packet.head.label = (self.label + 1) % 64;
+        }
+        self.label = packet.head.label;
+        packet
     }
 
     fn request(&mut self, node: u8) -> Action {

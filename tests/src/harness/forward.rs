@@ -108,8 +108,7 @@ fn at_holders(bus: &Bus, choice: Choice, random: &mut Random) -> Vec<Action> {
                     Some(listener) if longest || random.percent(50) => listener,
                     _ => random.pick(&[other, other, ALL_NODES]),
                 };
-                let packet = Packet { address, header: random.word(), data: random.word() };
-                Action::Request { node, packet }
+                Action::Request { node, packet: random.packet(address) }
             }
             _ => Action::Clock { node },
         })

@@ -4,7 +4,7 @@ use std::io::{self, Write};
 
 use super::driver::{Driver, Style};
 use super::random::Random;
-use crate::bus::{Action, Bus, Mode, Packet, Phase, Record, ALL_NODES};
+use crate::bus::{Action, Bus, Head, Mode, Packet, Phase, Record, ALL_NODES};
 use crate::runfile::{self, BLOCK, FULL};
 
 #[derive(Clone, Copy, PartialEq, Eq, Debug)]
@@ -102,7 +102,8 @@ impl Steady {
                     _ => (node + 1) % self.bus.n,
                 };
                 let (header, data) = (self.random.draw() as u32, self.random.draw() as u32);
-                Action::Request { node, packet: Packet { address, header, data } }
+                let head = Head { header, label: self.random.byte(0, 63) };
+                Action::Request { node, packet: Packet { address, head, data } }
             }
             Phase::Busy => {
                 let holder = self.bus.holder.lowest(self.bus.n).unwrap_or(node);

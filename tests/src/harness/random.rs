@@ -1,5 +1,7 @@
 //! A small seeded generator of pseudo-random numbers (splitmix64).
 
+use crate::bus::{Head, Packet};
+
 #[derive(Clone, Debug)]
 pub struct Random {
     state: u64,
@@ -55,5 +57,17 @@ impl Random {
             2..=4 => self.below(300) as u32,
             _ => self.draw() as u32,
         }
+    }
+
+    /// A label: the ends of the range often.
+    pub fn label(&mut self) -> u8 {
+        let any = self.byte(0, 63);
+        self.pick(&[0, 63, any, any, any, any])
+    }
+
+    /// A packet to this address.
+    pub fn packet(&mut self, address: u8) -> Packet {
+        let head = Head { header: self.word(), label: self.label() };
+        Packet { address, head, data: self.word() }
     }
 }

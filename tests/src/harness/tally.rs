@@ -3,17 +3,35 @@
 use std::collections::BTreeMap;
 use std::fmt::Write;
 
+use super::forward::listener;
 use super::ways::Way;
 use super::workers::Merge;
 use crate::bus::{Action, Bus, Check, Mode, Phase, Record, Report, Reported, Signal};
 use crate::table::{class, place, CLASSES, MODES};
 
 /// Refusals that a file can meet: all but 12.
-const REFUSALS: [u8; 11] = [1, 2, 3, 4, 5, 6, 7, 8, 9, 10, 11];
+const REFUSALS: [u8; 12] = [1, 2, 3, 4, 5, 6, 7, 8, 9, 10, 11, 13];
 
+/// The first two have no label.
 const REPORTS: [&str; 8] = ["won", "lost", "sent", "ack", "miss", "good", "dcrc", "broad"];
 
-const EVENTS: [&str; 37] = [
+/// Each other report with the ends of a label's range, and with something between.
+fn labelled() -> impl Iterator<Item = String> {
+    let ends = |word| ["0", "1 to 62", "63"].map(|labels| format!("{word}, label {labels}"));
+    REPORTS[2..].iter().flat_map(ends)
+}
+
+/// Which of these it is.
+fn label_of(report: Report) -> Option<String> {
+    let labels = match report.label()? {
+        0 => "0",
+        63 => "63",
+        _ => "1 to 62",
+    };
+    Some(format!("{}, label {labels}", report.word()))
+}
+
+const EVENTS: [&str; 42] = [
     "Dest changed",
     "Header lost",
     "Header changed",
@@ -51,6 +69,11 @@ const EVENTS: [&str; 37] = [
     "reply acknowledged",
     "reply missed on End",
     "reply missed on Gap",
+    "reply with a label of its own",
+    "reply sent, another label waits",
+    "reply acknowledged, another label waits",
+    "reply missed, another label waits",
+    "told of another label than the node's own",
 ];
 
 /// The cells of the reception chart (mode and signal, 336 of them) that were met.
@@ -104,6 +127,12 @@ impl Counts {
         Counts { title, names, hits }
     }
 
+    /// One more of this name.
+    fn enter(&mut self, name: &str) {
+        let place = self.names.iter().position(|known| known == name);
+        self.hits[place.expect("every name has its place")] += 1;
+    }
+
     fn missing(&self) -> impl Iterator<Item = String> + '_ {
         let missed = self.names.iter().zip(&self.hits).filter(|(_, &hits)| hits == 0);
         missed.map(|(name, _)| format!("{} {name}", self.title))
@@ -128,6 +157,7 @@ pub struct Tally {
     pub longest_continuations: u64,
     refusals: Counts,
     reports: Counts,
+    labels: Counts,
     kinds: Counts,
     modes: Counts,
     events: Counts,
@@ -145,6 +175,7 @@ impl Tally {
             longest_continuations: 0,
             refusals: Counts::new("refusals", REFUSALS),
             reports: Counts::new("reports", REPORTS),
+            labels: Counts::new("labels reported", labelled()),
             kinds: Counts::new("kinds accepted", 1..=10),
             modes: Counts::new("node modes entered", MODES.map(|(name, _)| name)),
             events: Counts::new("events", EVENTS),
@@ -163,7 +194,7 @@ impl Tally {
         self.files += 1;
         self.bytes_compared += text.len() as u64;
         if let Some(number) = last_refusal(text) {
-            self.refusals.hits[usize::from(number) - 1] += 1;
+            self.refusals.enter(&number.to_string());
         }
     }
 
@@ -178,8 +209,10 @@ impl Tally {
         self.actions += 1;
         self.kinds.hits[usize::from(record.kind) - 1] += 1;
         if let Some(Reported { report, .. }) = reported {
-            let place = REPORTS.iter().position(|&word| word == report.word());
-            self.reports.hits[place.expect("every report has its place")] += 1;
+            self.reports.enter(report.word());
+            if let Some(name) = label_of(report) {
+                self.labels.enter(&name);
+            }
         }
         for node in 0..after.n {
             let (left, entered) = (before.node(node).mode, after.node(node).mode);
@@ -191,28 +224,33 @@ impl Tally {
             self.cells.enter(before, action);
             let event = event(before, action, reported);
             let of_reply = event_of_reply(before, action, reported);
-            for event in [event, of_reply].into_iter().flatten() {
-                self.enter_event(event);
+            let of_labels = event_of_labels(before, action, reported);
+            for event in [event, of_reply, of_labels].into_iter().flatten() {
+                self.events.enter(event);
             }
             if after.holder.nodes(after.n).nth(1).is_some() {
-                self.enter_event("several holders");
+                self.events.enter("several holders");
             }
         }
     }
 
-    fn enter_event(&mut self, event: &str) {
-        let place = EVENTS.iter().position(|&name| name == event);
-        self.events.hits[place.expect("every event has its place")] += 1;
+    fn counts(&self) -> [&Counts; 7] {
+        [
+            &self.refusals,
+            &self.reports,
+            &self.labels,
+            &self.kinds,
+            &self.modes,
+            &self.events,
+            &self.ways,
+        ]
     }
 
-    fn counts(&self) -> [&Counts; 6] {
-        [&self.refusals, &self.reports, &self.kinds, &self.modes, &self.events, &self.ways]
-    }
-
-    fn counts_mut(&mut self) -> [&mut Counts; 6] {
+    fn counts_mut(&mut self) -> [&mut Counts; 7] {
         [
             &mut self.refusals,
             &mut self.reports,
+            &mut self.labels,
             &mut self.kinds,
             &mut self.modes,
             &mut self.events,
@@ -227,7 +265,7 @@ impl Tally {
 
     pub fn print(&self) -> String {
         let mut text = String::new();
-        for counts in &self.counts()[..5] {
+        for counts in &self.counts()[..6] {
             counts.print(&mut text);
         }
         self.print_ways(&mut text);
@@ -335,18 +373,18 @@ fn event_of_reply(bus: &Bus, action: Action, reported: Option<Reported>) -> Opti
             "reply begun while the Prefix is under way"
         }
         (Action::Respond { .. }, _) => "reply's respond",
-        (Action::Clock { .. }, _) if report == Some(Report::Sent) => "reply sent",
+        (Action::Clock { .. }, _) if matches!(report, Some(Report::Sent { .. })) => "reply sent",
         (Action::Clock { node }, _) => match bus.node(node).mode {
             Mode::Answering => "reply's filler clock in Answering",
             Mode::Spurious => "reply's Spurious clock",
             _ => return None,
         },
-        (Action::Gap, _) if report == Some(Report::Miss) => "reply missed on Gap",
+        (Action::Gap, _) if matches!(report, Some(Report::Miss { .. })) => "reply missed on Gap",
         (Action::Pass, Some(Signal::End)) => match report? {
             Report::Good { .. } => "reply told good",
             Report::Dcrc { .. } => "reply told dcrc",
             Report::Broad { .. } => "reply told broad",
-            Report::Ack(_) => "reply acknowledged",
+            Report::Ack { .. } => "reply acknowledged",
             _ => "reply missed on End",
         },
         _ if receiver == Mode::Wait => return None,
@@ -359,6 +397,31 @@ fn event_of_reply(bus: &Bus, action: Action, reported: Option<Reported>) -> Opti
         }
     };
     Some(event)
+}
+
+/// What it calls the same action where one label could be taken for another. A packet waits while
+/// its node's packet is confirmed only if that one is a reply.
+fn event_of_labels(bus: &Bus, action: Action, reported: Option<Reported>) -> Option<&'static str> {
+    let sending = |node: u8| bus.node(node).sending.head.label;
+    let waiting = |node: u8| bus.node(node).buffer.map(|packet| packet.head.label);
+    if let Action::Request { node, packet } = action {
+        // The node that listens has sent what is answered.
+        let others = [listener(bus).map(sending)?, waiting(node)?];
+        let own = bus.is_forward(action) && !others.contains(&packet.head.label);
+        return own.then_some("reply with a label of its own");
+    }
+    let Reported { node, report } = reported?;
+    let label = report.label()?;
+    if report.tells() {
+        let own = [Some(sending(node)), waiting(node)].contains(&Some(label));
+        return (!own).then_some("told of another label than the node's own");
+    }
+    match report {
+        _ if waiting(node)? == label => None,
+        Report::Sent { .. } => Some("reply sent, another label waits"),
+        Report::Ack { .. } => Some("reply acknowledged, another label waits"),
+        _ => Some("reply missed, another label waits"),
+    }
 }
 
 /// The number in a last line `refused COUNT NUMBER`.

@@ -189,7 +189,7 @@ impl<'a> Writer<'a> {
 
     /// The words of an action's line, each with what it stands for.
     fn spell(&mut self, record: Record) -> Vec<(Slot, Word)> {
-        let Record { kind, node, address, ack, hold, header, data, .. } = record;
+        let Record { kind, node, address, ack, hold, label, header, data, .. } = record;
         let mut words = vec![(Slot::Name, NAMES[usize::from(kind)].into())];
         if (1..=4).contains(&kind) {
             words.push((Slot::Byte, self.number(node.into())));
@@ -204,11 +204,15 @@ impl<'a> Writer<'a> {
         if kind == 1 {
             words.push((Slot::Word, self.number(header.into())));
             words.push((Slot::Word, self.number(data.into())));
+            if label != 0 || self.free && self.random.percent(30) {
+                words.push((Slot::Keyword, b"label".to_vec()));
+                words.push((Slot::Byte, self.number(label.into())));
+            }
         }
         if kind == 3 {
             words.push((Slot::Byte, self.number(ack.into())));
             if hold == 1 {
-                words.push((Slot::Hold, b"hold".to_vec()));
+                words.push((Slot::Keyword, b"hold".to_vec()));
             }
         }
         words

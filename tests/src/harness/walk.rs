@@ -1,36 +1,73 @@
 //! `model walk`: one transaction from a fresh bus and the reply to it, walked through whole. Node 0
 //! has a request to each possible address and wins; then every interleaving of all open actions of
-//! kinds 3 to 9 and of some requests from Holding.
+//! kinds 3 to 9 and of some requests from Holding. The other nodes have requests waiting.
 
 use std::collections::HashMap;
 
 use super::tally::Cells;
-use crate::bus::{Action, Bus, Marks, Mode, Node, Packet, Phase, Report, ALL_NODES};
+use crate::bus::{
+    Action, Bus, Head, Marks, Mode, Node, Packet, Phase, Report, Reported, ALL_NODES,
+};
 
-/// A state that was reached, and how many replies were started on the way from the win to it.
+/// The packet of node 0's request, and those that wait at all other nodes. Replies have other labels
+/// than both.
+const REQUEST: Packet = Packet { address: 0, head: Head { header: 1, label: 7 }, data: 2 };
+const WAITING: Packet = Packet { address: 0, head: Head { header: 5, label: 8 }, data: 6 };
+
+/// A request from Holding: its node and its label.
+#[derive(Clone, Copy, PartialEq, Eq, Hash, Debug)]
+struct Reply {
+    node: u8,
+    label: u8,
+}
+
+/// A state that was reached, and the reply that was started on the way from the win to it.
 #[derive(Clone, Debug)]
 struct Reached {
     bus: Bus,
-    replies: u8,
+    reply: Option<Reply>,
 }
 
 impl Reached {
     /// What is reached by this action, if it is open. All requests tried are from Holding.
-    fn by(&self, action: Action) -> Option<Reached> {
-        let Reached { mut bus, mut replies } = self.clone();
-        bus.act(action).ok()?;
-        if let Action::Request { .. } = action {
-            replies += 1;
+    fn by(&self, action: Action) -> Result<Option<Reached>, String> {
+        let mut next = self.clone();
+        let Ok(reported) = next.bus.act(action) else {
+            return Ok(None);
+        };
+        if let Some(reported) = reported {
+            self.look_at_label(reported)?;
         }
-        Some(Reached { bus, replies })
+        if let Action::Request { node, packet } = action {
+            let reply = Reply { node, label: packet.head.label };
+            if next.reply.replace(reply).is_some() {
+                return Err(format!("a second reply before the bus is idle: {:?}", self.bus));
+            }
+        }
+        Ok(Some(next))
+    }
+
+    /// "A confirmation, and the told report before an `ack a`, bears the label of its own request":
+    /// the reply's, if it is the reply's node that reports, or if a node is told after it started.
+    fn look_at_label(&self, reported: Reported) -> Result<(), String> {
+        let Reported { node, report } = reported;
+        let own = match self.reply {
+            Some(reply) if reply.node == node || report.tells() => reply.label,
+            _ => REQUEST.head.label,
+        };
+        match report.label() == Some(own) {
+            true => Ok(()),
+            false => Err(format!("{reported:?}, and its request has label {own}: {:?}", self.bus)),
+        }
     }
 
     /// What holds of every state.
     fn look(&self) -> Result<(), String> {
-        let Reached { bus, replies } = self;
+        let bus = &self.bus;
         let rests = |node| bus.node(node).mode == Mode::Rest;
-        if *replies > 1 {
-            Err(format!("a second reply before the bus is idle: {bus:?}"))
+        let waits = |node| bus.node(node).buffer == Some(WAITING);
+        if !(1..bus.n).all(waits) {
+            Err(format!("a request that waited is lost: {bus:?}"))
         } else if bus.phase == Phase::Idle && !(0..bus.n).all(rests) {
             Err(format!("idle, and not every node rests: {bus:?}"))
         } else if bus.phase == Phase::Idle && bus.concatenated {
@@ -48,17 +85,17 @@ struct Key {
     marks: [Marks; 4],
     concatenated: bool,
     nodes: Box<[Node]>,
-    replies: u8,
+    reply: Option<Reply>,
 }
 
 impl Key {
-    fn of(Reached { bus, replies }: &Reached) -> Key {
+    fn of(Reached { bus, reply }: &Reached) -> Key {
         Key {
             phase: bus.phase,
             marks: [bus.won, bus.pending, bus.holder, bus.misled],
             concatenated: bus.concatenated,
             nodes: bus.nodes[..usize::from(bus.n)].into(),
-            replies: *replies,
+            reply: *reply,
         }
     }
 }
@@ -82,9 +119,11 @@ struct Walk {
 
 /// The requests from Holding that are tried: to each address, and a second packet to the last.
 fn packets(n: u8) -> Vec<Packet> {
+    let head = Head { header: 3, label: 9 };
     let mut packets: Vec<Packet> =
-        addresses(n).map(|address| Packet { address, header: 3, data: 4 }).collect();
-    packets.push(Packet { address: ALL_NODES, header: 0, data: u32::MAX });
+        addresses(n).map(|address| Packet { address, head, data: 4 }).collect();
+    let head = Head { header: 0, label: 63 };
+    packets.push(Packet { address: ALL_NODES, head, data: u32::MAX });
     packets
 }
 
@@ -124,7 +163,7 @@ impl Walk {
         self.known.insert(Key::of(reached), Known::Open);
         let mut longest = None;
         for action in candidates(bus) {
-            let Some(next) = reached.by(action) else {
+            let Some(next) = reached.by(action)? else {
                 continue;
             };
             self.cells.enter(bus, action);
@@ -147,7 +186,7 @@ impl Walk {
     /// The longest way from any state reached.
     fn over_all(&mut self, root: Bus) -> Result<u32, String> {
         let mut longest = 0;
-        self.behind_fillers.push(Reached { bus: root, replies: 0 });
+        self.behind_fillers.push(Reached { bus: root, reply: None });
         while let Some(reached) = self.behind_fillers.pop() {
             longest = longest.max(self.longest(&reached)?);
         }
@@ -158,12 +197,15 @@ impl Walk {
 /// Walks from node 0's request to this address: how many states, the longest way, the cells met.
 fn transaction(n: u8, address: u8) -> Result<(usize, u32, Cells), String> {
     let mut bus = Bus::fresh(n).map_err(|refusal| format!("n refused: {}", refusal.number()))?;
-    let packet = Packet { address, header: 1, data: 2 };
-    let accepted = bus.act(Action::Request { node: 0, packet });
+    for node in 0..n {
+        let packet = if node == 0 { Packet { address, ..REQUEST } } else { WAITING };
+        if bus.act(Action::Request { node, packet }) != Ok(None) {
+            return Err(format!("node {node}: a fresh bus does not take its request"));
+        }
+    }
     let won = bus.act(Action::Arbitrate { node: 0 });
-    match (accepted, won) {
-        (Ok(None), Ok(Some(reported))) if reported.report == Report::Won => (),
-        _ => return Err("node 0 did not win a fresh bus".into()),
+    if won != Ok(Some(Reported { node: 0, report: Report::Won })) {
+        return Err("node 0 did not win a fresh bus".into());
     }
     let mut walk = Walk::default();
     let longest = walk.over_all(bus)?;

@@ -138,7 +138,12 @@ impl Watch {
             };
             last.confirmations += 1;
             let last = *last;
-            if let Report::Ack(ack) = report {
+            // "A confirmation […] bears the label of its own request".
+            let own = last.packet.head.label;
+            if report.label() != Some(own) {
+                return Err(format!("node {node}: {report:?}, and its request has label {own}"));
+            }
+            if let Report::Ack { ack, .. } = report {
                 self.look_at_ack(last, ack)
                     .map_err(|why| format!("node {node}: ack {ack}: {why}"))?;
             }
@@ -148,19 +153,18 @@ impl Watch {
 
     /// "From a request's start to its `ack a` there is exactly one of these on the whole bus: the
     /// addressed node's, `good h d` or `dcrc h`, with the request's own header and data. In that
-    /// stretch exactly one respond is accepted: that node's, after it was told, with a."
+    /// stretch exactly one respond is accepted: that node's, after it was told, with a." "[…] the
+    /// told report before an `ack a`, bears the label of its own request".
     fn look_at_ack(&self, request: Started, ack: u8) -> Result<(), Violation> {
         let [told] = self.told[request.told..] else {
             let count = self.told.len() - request.told;
             return Err(format!("{count} times told since the request started"));
         };
-        let Packet { address, header, data } = request.packet;
+        let Packet { address, head, data } = request.packet;
         if told.node != address {
             return Err(format!("node {} was told, not {address}", told.node));
         }
-        if told.report != (Report::Good { header, data })
-            && told.report != (Report::Dcrc { header })
-        {
+        if told.report != (Report::Good { head, data }) && told.report != (Report::Dcrc { head }) {
             return Err(format!("told {:?}, not of the packet", told.report));
         }
         let [respond] = self.responds[request.responds..] else {
@@ -178,7 +182,7 @@ impl Watch {
 
     /// What holds after each action, and of a fresh bus.
     pub fn look(&self) -> Result<(), Violation> {
-        // "until then the buffer holds its address, header and data"
+        // "until then the buffer holds its address, header and data", and its label with them
         for (node, books) in (0..self.bus.n).zip(&self.books) {
             if books.waiting.is_some() && self.bus.node(node).buffer != books.waiting {
                 return Err(format!("node {node}: the buffer does not hold the waiting request"));

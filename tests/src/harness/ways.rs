@@ -40,6 +40,7 @@ pub enum Field {
     Address,
     Ack,
     Hold,
+    Label,
     Zero(usize),
     Header,
     Data,
@@ -50,9 +51,9 @@ const FIELDS: [Field; 9] = [
     Field::Address,
     Field::Ack,
     Field::Hold,
+    Field::Label,
     Field::Zero(0),
     Field::Zero(1),
-    Field::Zero(2),
     Field::Header,
     Field::Data,
 ];
@@ -63,7 +64,7 @@ fn names(kind: u8, field: Field) -> bool {
         Field::Node => (1..=4).contains(&kind),
         Field::Address => kind == 1 || kind == 7,
         Field::Ack | Field::Hold => kind == 3,
-        Field::Header | Field::Data => kind == 1,
+        Field::Label | Field::Header | Field::Data => kind == 1,
         Field::Zero(_) => false,
     }
 }
@@ -89,6 +90,8 @@ pub enum Way {
     NoAddress {
         kind: u8,
     },
+    /// 13
+    Label(u8),
     /// 6
     Ack(u8),
     Hold(u8),
@@ -115,6 +118,7 @@ impl Way {
         }
         ways.extend([1, 2, 3, 4].map(|kind| Way::NodeTooHigh { kind }));
         ways.extend([1, 7].map(|kind| Way::NoAddress { kind }));
+        ways.extend([64, 65, 127, 128, 255].map(Way::Label));
         ways.extend([16, 17, 128, 255].map(Way::Ack));
         ways.extend([2, 3, 128, 255].map(Way::Hold));
         ways.extend(Closed::all().into_iter().map(Way::Closed));
@@ -131,6 +135,7 @@ impl Way {
             Way::NotNamed { .. } => "refusal 3",
             Way::NodeTooHigh { .. } => "refusal 4",
             Way::NoAddress { .. } => "refusal 5",
+            Way::Label(_) => "refusal 13",
             Way::Ack(_) | Way::Hold(_) => "refusal 6",
             Way::Closed(_) => "refusal 7",
             Way::Damaged(_) => "damaged files",
@@ -176,8 +181,16 @@ impl Way {
                 record
             }),
             Way::NoAddress { kind } => wrong_record(random, 5, |random, n| {
-                let record = right_record(random, n, kind);
+                let mut record = right_record(random, n, kind);
+                // The number after 5 too, now and then.
+                if names(kind, Field::Label) && random.percent(50) {
+                    record.label = no_label(random);
+                }
                 Record { address: no_address(random, n), ..record }
+            }),
+            Way::Label(label) => wrong_record(random, 13, |random, n| {
+                let record = right_record(random, n, 1);
+                Record { label, ..record }
             }),
             Way::Ack(ack) => wrong_record(random, 6, |random, n| {
                 let record = right_record(random, n, 3);
@@ -248,7 +261,7 @@ pub(super) fn right_record(random: &mut Random, n: u8, kind: u8) -> Record {
     let node = random.below(n.into()) as u8;
     let other = random.below(n.into()) as u8;
     let address = random.pick(&[other, other, ALL_NODES]);
-    let packet = Packet { address, header: random.word(), data: random.word() };
+    let packet = random.packet(address);
     right_action(random, kind, node, packet).into()
 }
 
@@ -290,19 +303,23 @@ fn set_not_zero(random: &mut Random, record: &mut Record, field: Field) {
         Field::Address => record.address = byte,
         Field::Ack => record.ack = byte,
         Field::Hold => record.hold = byte,
+        Field::Label => record.label = byte,
         Field::Zero(place) => record.zeros[place] = byte,
         Field::Header => record.header = word,
         Field::Data => record.data = word,
     }
 }
 
-/// Makes the named fields wrong that numbers 4 to 6 look at.
+/// Makes the named fields wrong that numbers 4 to 6 and 13 look at.
 fn spoil_named(random: &mut Random, n: u8, record: &mut Record) {
     if names(record.kind, Field::Node) {
         record.node = too_high(random, n);
     }
     if names(record.kind, Field::Address) {
         record.address = no_address(random, n);
+    }
+    if names(record.kind, Field::Label) {
+        record.label = no_label(random);
     }
     if names(record.kind, Field::Ack) {
         record.ack = random.byte(16, 255);
@@ -323,4 +340,9 @@ pub(super) fn no_address(random: &mut Random, n: u8) -> u8 {
             return address;
         }
     }
+}
+
+pub(super) fn no_label(random: &mut Random) -> u8 {
+    let any = random.byte(64, 255);
+    random.pick(&[64, 64, 128, 255, any])
 }

@@ -1,6 +1,7 @@
 //! "What a node does with a signal", written by hand from the rows of document 01 and request 1.
 
-use bench_model::bus::{Check, Mode, Report, Signal};
+use super::packet;
+use bench_model::bus::{Check, Head, Mode, Node, Report, Signal};
 
 /// The mode before, then what comes of each signal: the mode, `!report`, `+` for pending. `.` is
 /// to stay. The lines are in document 01's order, the columns in that of [`Receiver::signals`].
@@ -73,7 +74,7 @@ fn answer(before: &'static str, word: &'static str) -> Answer {
 /// What modes remember, or what signals carry.
 #[derive(Clone, Copy, Debug)]
 pub struct Values {
-    pub header: u32,
+    pub head: Head,
     pub data: u32,
     pub ack: u8,
 }
@@ -89,11 +90,15 @@ pub struct Receiver {
     pub carried: Values,
 }
 
-const SOME: Values = Values { header: 7, data: 9, ack: 3 };
-const LEAST: Values = Values { header: 0, data: 0, ack: 0 };
-const MOST: Values = Values { header: u32::MAX, data: u32::MAX, ack: 15 };
+const fn values(header: u32, data: u32, ack: u8, label: u8) -> Values {
+    Values { head: Head { header, label }, data, ack }
+}
+
+const SOME: Values = values(7, 9, 3, 11);
+const LEAST: Values = values(0, 0, 0, 0);
+const MOST: Values = values(u32::MAX, u32::MAX, 15, 63);
 /// Numbers that nodes and addresses have too.
-const NUMBERS: Values = Values { header: 1, data: 63, ack: 15 };
+const NUMBERS: Values = values(1, 63, 15, 62);
 
 pub const RECEIVERS: [Receiver; 5] = [
     Receiver { own: 4, other: 5, step: 2, hold: true, remembered: SOME, carried: SOME },
@@ -107,7 +112,7 @@ impl Receiver {
     /// The columns: Start, End, Prefix, Gap, Dhead, Dest own, Dest 63, Dest of another, Header good
     /// and bad, Data good and bad, Ack good and bad.
     pub fn signals(&self) -> [Signal; 14] {
-        let Values { header, data, ack } = self.carried;
+        let Values { head, data, ack } = self.carried;
         [
             Signal::Start,
             Signal::End,
@@ -117,8 +122,8 @@ impl Receiver {
             Signal::Dest(self.own),
             Signal::Dest(63),
             Signal::Dest(self.other),
-            Signal::Header(header, Check::Good),
-            Signal::Header(header, Check::Bad),
+            Signal::Header(head, Check::Good),
+            Signal::Header(head, Check::Bad),
             Signal::Data(data, Check::Good),
             Signal::Data(data, Check::Bad),
             Signal::Ack(ack, Check::Good),
@@ -128,7 +133,7 @@ impl Receiver {
 
     /// The mode with this name, as the receiver remembers it.
     pub fn mode(&self, name: &str) -> Mode {
-        let Values { header, data, ack } = self.remembered;
+        let Values { head, data, ack } = self.remembered;
         match name {
             "Rest" => Mode::Rest,
             "AwaitAck" => Mode::AwaitAck,
@@ -139,12 +144,12 @@ impl Receiver {
             "Addressed" => Mode::Addressed,
             "HeadOwn" => Mode::HeadOwn,
             "HeadAll" => Mode::HeadAll,
-            "BodyOwn" => Mode::BodyOwn { header },
-            "BodyAll" => Mode::BodyAll { header },
-            "TailOwn" => Mode::TailOwn { header, data: Some(data) },
-            "TailOwn-" => Mode::TailOwn { header, data: None },
-            "TailAll" => Mode::TailAll { header, data: Some(data) },
-            "TailAll-" => Mode::TailAll { header, data: None },
+            "BodyOwn" => Mode::BodyOwn { head },
+            "BodyAll" => Mode::BodyAll { head },
+            "TailOwn" => Mode::TailOwn { head, data: Some(data) },
+            "TailOwn-" => Mode::TailOwn { head, data: None },
+            "TailAll" => Mode::TailAll { head, data: Some(data) },
+            "TailAll-" => Mode::TailAll { head, data: None },
             "Wait" => Mode::Wait,
             "Owed" => Mode::Owed,
             "Sending" => Mode::Sending { step: self.step },
@@ -158,15 +163,28 @@ impl Receiver {
         }
     }
 
-    /// The report with this word, of what the receiver remembers.
+    /// The label of the packet that it is sending: no other label here is the same.
+    fn label(&self) -> u8 {
+        20 + self.step
+    }
+
+    /// Its record in this mode. No report bears the label that waits in the buffer.
+    pub fn node(&self, mode: Mode) -> Node {
+        let sending = packet(self.other, 31, 32, self.label());
+        Node { mode, buffer: Some(packet(63, 33, 34, 40)), sending }
+    }
+
+    /// The report with this word: miss and ack with the label of the packet being sent, the others
+    /// of what the receiver remembers, the header's label too.
     pub fn report(&self, word: &str) -> Report {
-        let Values { header, data, ack } = self.remembered;
+        let Values { head, data, ack } = self.remembered;
+        let label = self.label();
         match word {
-            "miss" => Report::Miss,
-            "ack" => Report::Ack(ack),
-            "good" => Report::Good { header, data },
-            "dcrc" => Report::Dcrc { header },
-            "broad" => Report::Broad { header, data },
+            "miss" => Report::Miss { label },
+            "ack" => Report::Ack { ack, label },
+            "good" => Report::Good { head, data },
+            "dcrc" => Report::Dcrc { head },
+            "broad" => Report::Broad { head, data },
             _ => panic!("{word} is no report of a reception"),
         }
     }
@@ -176,7 +194,7 @@ impl Receiver {
     pub fn entering_by(&self, signal: Signal) -> Receiver {
         let mut after = *self;
         match signal {
-            Signal::Header(header, _) => after.remembered.header = header,
+            Signal::Header(head, _) => after.remembered.head = head,
             Signal::Data(data, _) => after.remembered.data = data,
             Signal::Ack(ack, _) => after.remembered.ack = ack,
             _ => (),

@@ -3,11 +3,21 @@
 
 pub mod chart;
 
-use bench_model::bus::{Action, Bus, Packet, Record};
+use bench_model::bus::{Action, Bus, Head, Packet, Record};
 use bench_model::{player, runfile};
 
+pub fn packet(address: u8, header: u32, data: u32, label: u8) -> Packet {
+    Packet { address, head: Head { header, label }, data }
+}
+
+/// A request with this label.
+pub fn labelled(node: u8, address: u8, header: u32, data: u32, label: u8) -> Record {
+    Record { kind: 1, node, address, label, header, data, ..Record::default() }
+}
+
+/// A request with label 0, as in older runs.
 pub fn request(node: u8, address: u8, header: u32, data: u32) -> Record {
-    Action::Request { node, packet: Packet { address, header, data } }.into()
+    labelled(node, address, header, data, 0)
 }
 
 pub fn arbitrate(node: u8) -> Record {
@@ -65,21 +75,28 @@ pub fn case_b() -> Vec<Record> {
     run
 }
 
-/// Case B up to the last pass, with hold 1 in its respond: the acknowledgement ends in Prefix.
-pub fn held() -> Vec<Record> {
+/// The same with label 7.
+pub fn case_b_labelled() -> Vec<Record> {
     let mut run = case_b();
+    run[0] = labelled(0, 1, 5, 6, 7);
+    run
+}
+
+/// That up to the last pass, with hold 1 in its respond: the acknowledgement ends in Prefix.
+pub fn held() -> Vec<Record> {
+    let mut run = case_b_labelled();
     run[15] = respond(1, 1, 1);
     run.truncate(22);
     run
 }
 
-/// That, then node 1's reply to node 0 (3, 4): told at 34, granted at 35, acknowledged with 7 at 42;
-/// and two gaps.
+/// That, then node 1's reply to node 0 (3, 4) with label 9: told at 34, granted at 35, acknowledged
+/// with 2 at 42; and two gaps.
 pub fn replied() -> Vec<Record> {
     let mut run = held();
-    run.push(request(1, 0, 3, 4));
+    run.push(labelled(1, 0, 3, 4, 9));
     run.extend([clock(1), pass()].repeat(6));
-    run.extend([grant(), respond(0, 7, 0)]);
+    run.extend([grant(), respond(0, 2, 0)]);
     run.extend([clock(0), pass()].repeat(3));
     run.extend([gap(), gap()]);
     run
@@ -92,6 +109,11 @@ pub fn printed_file(bytes: &[u8]) -> String {
 /// The text of a run that the writer takes.
 pub fn printed(n: u8, records: &[Record]) -> String {
     printed_file(&runfile::write_file(n, records).expect("the writer takes it"))
+}
+
+/// The lines of a text that have a report.
+pub fn reports(text: &str) -> Vec<&str> {
+    text.lines().filter(|line| line.split(' ').count() > 3).collect()
 }
 
 /// A fresh bus on which these actions were accepted.

@@ -2,11 +2,12 @@
 //! model prints.
 
 use super::spelling::NAMES;
+use crate::bus::is_label;
 use crate::notation::{self, Complaint, Fault, Line, LONGEST_LINE, MARK};
 use crate::runfile::FULL;
 
 /// All that a text can have; too many actions take a text that nobody waits for.
-const FAULTS: [Fault; 14] = [
+const FAULTS: [Fault; 15] = [
     Fault::LongLine,
     Fault::UnknownWord,
     Fault::MissingField,
@@ -20,17 +21,19 @@ const FAULTS: [Fault; 14] = [
     Fault::Refused(1),
     Fault::Refused(4),
     Fault::Refused(5),
+    Fault::Refused(13),
     Fault::Refused(6),
 ];
 
 /// THE FIELD; the last one may lack.
-const FIELDS: [&str; 11] = [
+const FIELDS: [&str; 12] = [
     "the node of clock",
     "the node of arbitrate",
     "the node of request",
     "the address of request",
     "the header of request",
     "the data of request",
+    "the label of request",
     "the node of respond",
     "the acknowledgement of respond",
     "the number of nodes",
@@ -47,7 +50,7 @@ const HINTS: [&str; 3] = [
 /// Each fault with what its cause says of a field or of a word.
 fn causes() -> impl Iterator<Item = (Fault, &'static str)> {
     let of = |fault| move |&part: &&'static str| (fault, part);
-    let missing = FIELDS[..10].iter().map(of(Fault::MissingField));
+    let missing = FIELDS[..11].iter().map(of(Fault::MissingField));
     let not = FIELDS.iter().chain(&HINTS).map(of(Fault::NotANumber));
     let large = FIELDS.iter().map(of(Fault::TooLarge));
     let unknown = HINTS.iter().map(of(Fault::UnknownWord));
@@ -57,7 +60,7 @@ fn causes() -> impl Iterator<Item = (Fault, &'static str)> {
 
 /// The words that begin a line, then the others.
 fn known_words() -> impl Iterator<Item = &'static str> {
-    NAMES.into_iter().chain(["all", "hold", "*"])
+    NAMES.into_iter().chain(["all", "label", "hold", "*"])
 }
 
 /// A text, and what came of it.
@@ -153,12 +156,35 @@ impl<'a> Seen<'a> {
         self.printed.contains(HINTS[hint])
     }
 
+    /// Whether the words after the `label` of a right line are such ones.
+    fn labelled(&self, is: impl Fn(&[&[u8]]) -> bool) -> bool {
+        self.any_line(|line| after_label(line).is_some_and(|words| is(&words)))
+    }
+
+    /// Whether a line with a label is refused by this number, though its label is none.
+    fn refused_before_label(&self, number: u8) -> bool {
+        let is_none = |line| match notation::read_line(line) {
+            Ok(Line::Acts(record, _)) => !is_label(record.label),
+            _ => false,
+        };
+        self.fault() == Some(Fault::Refused(number)) && self.wrong.is_some_and(is_none)
+    }
+
     /// The statement of a refused line, with what stands between its words; or nothing.
     fn statement(&self) -> &[u8] {
         match (self.fault(), self.wrong) {
             (Some(Fault::Refused(_)), Some(line)) => notation::statement(line),
             _ => b"",
         }
+    }
+}
+
+/// The words after the `label` of a request, if it has one.
+fn after_label(line: &[u8]) -> Option<Vec<&[u8]>> {
+    let words: Vec<&[u8]> = notation::words(line).collect();
+    match &words[..] {
+        [b"request", _, _, _, _, b"label", after @ ..] => Some(after.to_vec()),
+        _ => None,
     }
 }
 
@@ -252,6 +278,30 @@ const STATEMENTS: [Sight; 7] = [
     ("cut after 64 bytes", |seen| !seen.statement().is_empty() && seen.printed.contains("..: ")),
 ];
 
+const LABELS: [Sight; 11] = [
+    ("0", |seen| seen.labelled(|words| words[0] == b"0")),
+    ("63", |seen| seen.labelled(|words| words[0] == b"63")),
+    ("in hexadecimal", |seen| seen.labelled(|words| words[0].starts_with(b"0x"))),
+    ("before a repeat", |seen| seen.labelled(|words| words.get(1) == Some(&&b"*"[..]))),
+    ("an extra field after it", |seen| {
+        seen.says("extra field") && seen.wrong.and_then(after_label).is_some()
+    }),
+    ("a second one", |seen| {
+        let again = |words: Vec<&[u8]>| words.get(1) == Some(&&b"label"[..]);
+        seen.wrong.and_then(after_label).is_some_and(again)
+    }),
+    ("a repeat in the place of its number", |seen| {
+        seen.says(r#"not a number: "*", the label of request"#)
+    }),
+    ("in the place of a field", |seen| seen.says(r#"not a number: "label", the "#)),
+    ("of another action", |seen| {
+        let other = |line| notation::words(line).next() != Some(b"request");
+        seen.says(r#"extra field: "label""#) && seen.wrong.is_some_and(other)
+    }),
+    ("over 63, and no node", |seen| seen.refused_before_label(4)),
+    ("over 63, and no address", |seen| seen.refused_before_label(5)),
+];
+
 /// The tables of sights, each with what they are sights of.
 fn sights() -> impl Iterator<Item = (String, fn(&Seen) -> bool)> {
     let tables = [
@@ -259,6 +309,7 @@ fn sights() -> impl Iterator<Item = (String, fn(&Seen) -> bool)> {
         ("byte order mark", &MARKS),
         ("quoted word", &WORDS),
         ("statement", &STATEMENTS),
+        ("label", &LABELS),
     ];
     let named = |(of, table): (&'static str, &'static [Sight])| {
         table.iter().map(move |(name, is)| (format!("{of}: {name}"), *is))

@@ -28,7 +28,8 @@ pub enum Slot {
     Byte,
     Address,
     Word,
-    Hold,
+    /// `hold`, or the `label` before its number: it may lack.
+    Keyword,
 }
 
 /// What stands before hexadecimal digits.
@@ -169,8 +170,9 @@ pub fn unknown_word(random: &mut Random) -> Word {
     if random.percent(50) {
         return strange_word(random);
     }
-    let words = b"Pass PASS passs pas p * 0 5 0x5 0X5 nodes2 Nodes node hold all pass*6 pass, \0 \
-        pass\0 \x0bpass pass\x0c \xc2\xa0pass \xff requests nodesnodes ; -";
+    let words =
+        b"Pass PASS passs pas p * 0 5 0x5 0X5 nodes2 Nodes node hold label all pass*6 pass, \
+        \0 pass\0 \x0bpass pass\x0c \xc2\xa0pass \xff requests nodesnodes ; -";
     pick_word(random, words)
 }
 
@@ -180,7 +182,7 @@ pub fn no_number(random: &mut Random) -> Word {
         return strange_word(random);
     }
     let words =
-        b"x 0x 0X 0xg 0Xg 0x1g 0X1g 1a a ff -1 +1 1.0 1, 1h hold * ALL All all1 0x0x1 0X0X1 \
+        b"x 0x 0X 0xg 0Xg 0x1g 0X1g 1a a ff -1 +1 1.0 1, 1h hold label * ALL All all1 0x0x1 0X0X1 \
         00x1 00X1 X1 99999999999999999999z 0b1 1_000 x1 $1 \0 1\0 \xb9 / : 0x@ 0x` 1*6 2\xc2\xa0";
     pick_word(random, words)
 }
@@ -240,7 +242,7 @@ pub fn any_word(random: &mut Random) -> Word {
         0..=3 => random.pick(&NAMES).into(),
         4..=6 => spell_number(random, small),
         7 => b"*".to_vec(),
-        8 => random.pick(&[&b"all"[..], b"hold"]).to_vec(),
+        8 => random.pick(&[&b"all"[..], b"hold", b"label"]).to_vec(),
         9 => no_number(random),
         10 => unknown_word(random),
         _ => {

@@ -25,6 +25,12 @@ pub enum Wrong {
     NotANumber(u8),
     TooLarge(u8),
     Extra(u8),
+    /// `label` and a number in the place of a field, once more, or in the line of another kind.
+    LabelForField,
+    SecondLabel,
+    LabelOfOther(u8),
+    /// `label` and no number, but a repeat.
+    RepeatForLabel,
     RepeatWithoutCount,
     RepeatNotANumber,
     RepeatTooLarge,
@@ -33,9 +39,10 @@ pub enum Wrong {
     SecondNodes,
     /// n refused by number 1.
     Nodes(u8),
-    /// Refused by number 4, 5, 6.
+    /// Refused by number 4, 5, 13, 6.
     Node(u8),
     Address(u8),
+    Label(u8),
     Ack(u8),
 }
 
@@ -45,11 +52,15 @@ impl Wrong {
         all.extend([256, 257, 258, 511, 512, 513, 5000, 70_000].map(Wrong::Long));
         all.extend([Wrong::SecondMark, Wrong::HalfMark, Wrong::MarkInside, Wrong::MarkInside]);
         // Kinds with fields, once for each; `change` has none that can be missing.
-        all.extend([0, 1, 1, 1, 1, 2, 3, 3, 4].map(Wrong::Missing));
-        all.extend([0, 1, 1, 1, 1, 2, 3, 3, 4, 7].map(Wrong::NotANumber));
-        all.extend([0, 1, 1, 1, 1, 2, 3, 3, 4, 7].map(Wrong::TooLarge));
-        all.extend([0, 1, 2, 3, 4, 5, 6, 7, 8, 9, 10].map(Wrong::Extra));
+        all.extend([0, 1, 1, 1, 1, 1, 2, 3, 3, 4].map(Wrong::Missing));
+        all.extend([0, 1, 1, 1, 1, 1, 2, 3, 3, 4, 7].map(Wrong::NotANumber));
+        all.extend([0, 1, 1, 1, 1, 1, 2, 3, 3, 4, 7].map(Wrong::TooLarge));
+        all.extend([0, 1, 1, 2, 3, 4, 5, 6, 7, 8, 9, 10].map(Wrong::Extra));
+        all.extend([0, 2, 3, 4, 5, 6, 7, 8, 9, 10].map(Wrong::LabelOfOther));
         all.extend([
+            Wrong::LabelForField,
+            Wrong::SecondLabel,
+            Wrong::RepeatForLabel,
             Wrong::RepeatWithoutCount,
             Wrong::RepeatNotANumber,
             Wrong::RepeatTooLarge,
@@ -60,6 +71,7 @@ impl Wrong {
         all.extend([0, 1, 64, 65, 128, 255].map(Wrong::Nodes));
         all.extend([1, 2, 3, 4].map(Wrong::Node));
         all.extend([1, 7].map(Wrong::Address));
+        all.extend([64, 65, 128, 255].map(Wrong::Label));
         all.extend([16, 17, 255].map(Wrong::Ack));
         all
     }
@@ -118,7 +130,11 @@ pub fn wrong_line(random: &mut Random, wrong: Wrong) -> TextCase {
         // At the very start it would be skipped.
         Wrong::MarkInside => false,
         // A line's own fault is looked at before its place.
-        Wrong::SecondNodes | Wrong::Node(_) | Wrong::Address(_) | Wrong::Ack(_) => false,
+        Wrong::SecondNodes
+        | Wrong::Node(_)
+        | Wrong::Address(_)
+        | Wrong::Label(_)
+        | Wrong::Ack(_) => false,
         _ => writer.random.percent(10),
     };
     match first {
@@ -196,9 +212,17 @@ fn bare(words: Vec<(Slot, Word)>) -> Vec<Word> {
     words.into_iter().map(|(_, word)| word).collect()
 }
 
-/// The places of the fields that have to be there: not the name, not `hold`.
+/// The words of a right request without its label, so many of them, and then `label`.
+fn up_to_label(writer: &mut Writer, count: usize) -> Vec<Word> {
+    let mut words = bare(right_words(writer, 1));
+    words.truncate(count);
+    words.push(b"label".to_vec());
+    words
+}
+
+/// The places of the fields that have to be there: not the name, not `hold` or `label`.
 fn places(words: &[(Slot, Word)]) -> Vec<usize> {
-    let is_field = |place: &usize| !matches!(words[*place].0, Slot::Name | Slot::Hold);
+    let is_field = |place: &usize| !matches!(words[*place].0, Slot::Name | Slot::Keyword);
     (0..words.len()).filter(is_field).collect()
 }
 
@@ -238,6 +262,27 @@ fn wrong_words(writer: &mut Writer, wrong: Wrong) -> (Vec<Word>, Fault) {
             (words, Fault::TooLarge)
         }
         Wrong::Extra(kind) => (extra(writer, kind), Fault::ExtraField),
+        Wrong::LabelForField => {
+            let before = writer.random.between(1, 4) as usize;
+            let mut words = up_to_label(writer, before);
+            words.push(b"7".to_vec());
+            (words, Fault::NotANumber)
+        }
+        Wrong::SecondLabel => {
+            let mut words = up_to_label(writer, 5);
+            words.extend([b"7".to_vec(), b"label".to_vec(), b"8".to_vec()]);
+            (words, Fault::ExtraField)
+        }
+        Wrong::LabelOfOther(kind) => {
+            let mut words = bare(right_words(writer, kind));
+            words.extend([b"label".to_vec(), b"7".to_vec()]);
+            (words, Fault::ExtraField)
+        }
+        Wrong::RepeatForLabel => {
+            let mut words = up_to_label(writer, 5);
+            words.extend([b"*".to_vec(), b"2".to_vec()]);
+            (words, Fault::NotANumber)
+        }
         Wrong::RepeatWithoutCount => (repeat(writer, None), Fault::MissingField),
         Wrong::RepeatNotANumber => {
             let count = no_number(writer.random);
@@ -265,7 +310,15 @@ fn wrong_words(writer: &mut Writer, wrong: Wrong) -> (Vec<Word>, Fault) {
         Wrong::Address(kind) => {
             let mut record = ways::right_record(writer.random, writer.n, kind);
             record.address = ways::no_address(writer.random, writer.n);
+            // The number after 5 too, now and then.
+            if kind == 1 && writer.random.percent(50) {
+                record.label = ways::no_label(writer.random);
+            }
             (refused(writer, record), Fault::Refused(5))
+        }
+        Wrong::Label(label) => {
+            let record = ways::right_record(writer.random, writer.n, 1);
+            (refused(writer, Record { label, ..record }), Fault::Refused(13))
         }
         Wrong::Ack(ack) => {
             let record = ways::right_record(writer.random, writer.n, 3);
@@ -295,7 +348,12 @@ fn not_a_number(writer: &mut Writer, kind: u8) -> Vec<Word> {
 /// A word more than the line takes, after its fields or after its repeat.
 fn extra(writer: &mut Writer, kind: u8) -> Vec<Word> {
     let mut words = bare(right_words(writer, kind));
-    let may_hold = kind == 3 && words.len() == 3;
+    // What would be no extra word.
+    let keyword: &[u8] = match (kind, words.len()) {
+        (1, 5) => b"label",
+        (3, 3) => b"hold",
+        _ => b"",
+    };
     let may_repeat = kind != 0;
     if may_repeat && writer.random.percent(40) {
         words.extend([b"*".to_vec(), b"2".to_vec(), any_word(writer.random)]);
@@ -303,7 +361,7 @@ fn extra(writer: &mut Writer, kind: u8) -> Vec<Word> {
         words.push(strange_word(writer.random));
     } else {
         let mut word = any_word(writer.random);
-        while may_repeat && word == b"*" || may_hold && word == b"hold" {
+        while may_repeat && word == b"*" || word == keyword {
             word = any_word(writer.random);
         }
         words.push(word);
@@ -332,7 +390,10 @@ fn node_too_high(writer: &mut Writer, kind: u8) -> Vec<Word> {
     // The numbers after 4 too, now and then.
     if writer.random.percent(30) {
         match kind {
-            1 => record.address = ways::no_address(writer.random, writer.n),
+            1 => {
+                record.address = ways::no_address(writer.random, writer.n);
+                record.label = ways::no_label(writer.random);
+            }
             3 => record.ack = writer.random.byte(16, 255),
             _ => (),
         }

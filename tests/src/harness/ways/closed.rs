@@ -1,7 +1,7 @@
 //! Refusal 7: actions that are not open, for every reason there is.
 
 use super::{file, nodes, right_action, Case, End};
-use crate::bus::{Action, Bus, Mode, Packet, Phase, Record, Signal, ALL_NODES};
+use crate::bus::{Action, Bus, Mode, Phase, Record, Signal, ALL_NODES};
 use crate::harness::driver::{Driver, Style};
 use crate::harness::random::Random;
 
@@ -101,7 +101,7 @@ impl Closed {
         let full = |node| bus.node(node).buffer.is_some();
         let other = random.below(n.into()) as u8;
         let address = random.pick(&[other, ALL_NODES]);
-        let packet = Packet { address, header: random.word(), data: random.word() };
+        let packet = random.packet(address);
         let signal = match bus.phase {
             Phase::Delivering { signal, .. } => Some(signal),
             _ => None,
