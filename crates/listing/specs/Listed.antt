@@ -13,7 +13,7 @@ use Rattle.walk.specs.Feeding.{Walking, Part}
 use Rattle.listing.specs.declared.Listing.{Listing}
 use Rattle.listing.specs.declared.block.Part as put
 
--- an action looked at by 2 to 6, and its line; the state of the walk is block 0's n
+-- an action looked at by 2 to 6 (13 after 5), and its line; the state of the walk is block 0's n
 abbrev pub turn : Action → ℕ → Turn ℕ
 turn a n = record { number = numberOf (read n a); line = actionLine a; state = n }
 

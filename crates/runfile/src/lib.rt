@@ -209,7 +209,7 @@ pub fn action_bytes(block: &[u8]) -> &[u8]
     &block[14..end]
 }
 
-// The first refusal, by 2 to 6, of so many action records in order; or 0.
+// The first refusal, by 2 to 6 (13 after 5), of so many action records in order; or 0.
 fn first_refusal(n: u8, records: &[u8], count: usize) -> u8
     requires { ⌜ 16 * count ≤ length (now records) ⌝ }
     ensures { λ r. ⌜ r ≡ firstRefusal n (actionsOf count (now (records .entry))) ⌝ }
@@ -226,7 +226,7 @@ fn first_refusal(n: u8, records: &[u8], count: usize) -> u8
     0
 }
 
-// What the writer answers: it looks at 8, 1, 11, then 2 to 6 for each action.
+// What the writer answers: it looks at 8, 1, 11, then 2 to 6 (13 after 5) for each action.
 fn write_number(size: usize, n: u8, records: &[u8]) -> u8
     ensures { λ r. ⌜ r ≡ writeNumber size n (now (records .entry)) ⌝ }
     ensures { λ r. ⌜ (r ≡ 0 → (size ≡ 512) × (length (now (records .entry)) ≤ 496)) ⌝ }
