@@ -15,7 +15,6 @@ use Rattle.charts.specs.declared.Packet.{Packet}
 use Rattle.charts.specs.declared.Buffer.the-variants.{Full}
 use Rattle.charts.specs.declared.Phase.{Phase}
 use Rattle.charts.specs.declared.Phase.the-variants.{Idle, Busy, Delivering, Granting, Gapping}
-use Rattle.charts.specs.declared.Cell.{Cell}
 use Rattle.charts.specs.declared.Way.the-variants.{Pass}
 use Rattle.charts.specs.declared.Move.the-variants.{Carry}
 use Rattle.charts.specs.declared.Action.{Action}

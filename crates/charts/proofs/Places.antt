@@ -18,7 +18,7 @@ use Rattle.charts.specs.declared.Entry.{Entry}
 use Rattle.charts.specs.Modes as P
 use Rattle.charts.specs.Modes.{placeOf}
 use Rattle.charts.specs.Signals as S
-use Rattle.charts.specs.Signals.{classOf, isLine, closes, noHead}
+use Rattle.charts.specs.Signals.{classOf, isLine, closes}
 use Rattle.charts.specs.State.{every}
 use Rattle.charts.specs.Reception.{answer, hears}
 use Rattle.charts.specs.Places.{stepIn, ackIn, holdIn, headIn, datumIn, modes}

@@ -22,7 +22,7 @@ use Rattle.charts.specs.declared.Decoded.the-variants.{Refused, Accepted
 use Rattle.charts.specs.Numbers as N
 use Rattle.charts.specs.State.{State, pendings, remarked}
 use Rattle.charts.specs.Actions.{Outcome, closed, does, nextOf}
-use Rattle.charts.specs.Records.{isKind, namesNode, namesAddress, clean, isAddress, isLabel, moveOf, read}
+use Rattle.charts.specs.Records.{isKind, namesNode, namesAddress, clean, isAddress, isLabel, moveOf, badNode, badAddress, badLabel, badAnswer, read}
 use Rattle.charts.specs.Valid.{isSize, isAck, packetFits, phaseFits, cellFits, valid}
 use Rattle.charts.specs.Step.{Result, refuses, carryOut, about, comesTo, play, look, stepWith, step, after, Event, refusal, accepted, eventOf}
 use Rattle.charts.proofs.Tools.{never, and-true, both, pick-by, lowest-below, every-at}
@@ -74,10 +74,10 @@ unfolding read
 decodes n a =
     pick-by (Decodes n a) (not (isKind (a .kind))) _ _ (λ e. turned refl) λ e2.
     pick-by (Decodes n a) (not (clean a)) _ _ (λ e. turned refl) λ e3.
-    pick-by (Decodes n a) (namesNode (a .kind) && not (ltb (a .node) n)) _ _ (λ e. turned refl) λ e4.
-    pick-by (Decodes n a) (namesAddress (a .kind) && not (isAddress n (a .address))) _ _ (λ e. turned refl) λ e5.
-    pick-by (Decodes n a) (not (isLabel (a .label))) _ _ (λ e. turned refl) λ e13.
-    pick-by (Decodes n a) (not (ltb (a .ack) 16 && ltb (a .hold) 2)) _ _ (λ e. turned refl) λ e6.
+    pick-by (Decodes n a) (badNode n a) _ _ (λ e. turned refl) λ e4.
+    pick-by (Decodes n a) (badAddress n a) _ _ (λ e. turned refl) λ e5.
+    pick-by (Decodes n a) (badLabel a) _ _ (λ e. turned refl) λ e13.
+    pick-by (Decodes n a) (badAnswer a) _ _ (λ e. turned refl) λ e6.
     taken (move-known n a (λ u. ltb-true (a .node) n (implied-or _ _ e4 u)) (implied-or _ _ e5) (not-false _ e13) (and-true (ltb (a .ack) 16) _ (not-false _ e6) .0))
 
 -- 12

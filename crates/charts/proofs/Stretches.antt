@@ -24,7 +24,7 @@ use Rattle.charts.specs.Actions.{does}
 use Rattle.charts.specs.Step.{Result, step, Event, refusal, accepted, eventOf, events}
 use Rattle.charts.specs.Demand.{Note, told, gave, Run, none, run, Confirmed, Book, newBook, asks, wins, confirms, note, notes, holdsFor, moverOf, nodeOf, moves, reports, enters, bookOf, Acknowledged, Honest, AllHonest, book}
 use Rattle.charts.specs.Stretch as Stretch
-use Rattle.charts.specs.Stretch.{heldBy, heldFrom, held, requestOf, wonOf, confirmationOf, noWon, noOther, Starts, at-once, by-won, Tells, good, dcrc, Gives, givesNone, quiet, Confirms, Witnessed, EveryConfirmation}
+use Rattle.charts.specs.Stretch.{heldBy, heldFrom, held, requestOf, wonOf, confirmationOf, noWon, noOther, Starts, at-once, by-won, Tells, good, dcrc, givesNone, quiet, Confirms, Witnessed, EveryConfirmation}
 use Rattle.charts.proofs.Tools.{never, both, neither, and-yes}
 use Rattle.charts.proofs.Ways as Ways
 use Rattle.charts.proofs.Ways.{Effect, waits, replies}

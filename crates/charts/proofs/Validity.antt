@@ -5,7 +5,7 @@ use mathlib.Core.Bool.{Bool, true, false, _&&_, not}
 use mathlib.Core.List.{List, [], _∷_, List·Memᴰ, List·Memᴰ·cases-cons, List·Memᴰ·not-nil}
 use Prim.Native.Nat.{ℕ, suc, _<_, _≤_}
 use native.Mathlib.Omega.{arith}
-use lib.Dec.{eqb, ltb, lit<}
+use lib.Dec.{eqb, ltb}
 use lib.ListN.{getD}
 use borrow.Author.Tests.{eqb-true, eqb-false, ltb-true, not-true, lt-ltb, ne-eqb}
 use Rattle.charts.specs.declared.Mode.{Mode}
@@ -37,7 +37,7 @@ use Rattle.charts.specs.Reception.{falls, hears}
 use Rattle.charts.specs.Numbers as N
 use Rattle.charts.specs.State.{State, moved, remarked, fresh, some, others, pendings, holders}
 use Rattle.charts.specs.Actions.{Outcome, closed, does, firstOther, nextOther, onward}
-use Rattle.charts.specs.Records.{isKind, clean, namesNode, namesAddress, isAddress, isLabel, read}
+use Rattle.charts.specs.Records.{isKind, clean, isAddress, isLabel, badNode, badAddress, badLabel, badAnswer, read}
 use Rattle.charts.specs.Valid.{isSize, isAck, modeFits, packetFits, bufferFits, cellFits, signalFits, phaseFits, valid}
 use Rattle.charts.specs.Step.{Result, Event, carryOut, comesTo, about, play, look, stepWith, step, begin, after, results}
 use Rattle.charts.proofs.Tools.{implies, implied, and-true, both, pick, pick-by, at-upd, every-all, table-at, mem, by-test}
@@ -296,10 +296,10 @@ unfolding read
 read-not-12 n a =
     pick Not12 (not (isKind (a .kind))) _ _ refl (
     pick Not12 (not (clean a)) _ _ refl (
-    pick Not12 (namesNode (a .kind) && not (ltb (a .node) n)) _ _ refl (
-    pick Not12 (namesAddress (a .kind) && not (isAddress n (a .address))) _ _ refl (
-    pick Not12 (not (isLabel (a .label))) _ _ refl (
-    pick Not12 (not (ltb (a .ack) 16 && ltb (a .hold) 2)) _ _ refl tt)))))
+    pick Not12 (badNode n a) _ _ refl (
+    pick Not12 (badAddress n a) _ _ refl (
+    pick Not12 (badLabel a) _ _ refl (
+    pick Not12 (badAnswer a) _ _ refl tt)))))
 
 pub number-not-12 : (s : State) (a : Action) → valid s ≡ true → step s a .number ≢ N.not-valid
 unfolding step look play

@@ -63,13 +63,26 @@ moveOf a =
     (cond (eqb (a .kind) 9) GapNext
     Reset))))))))
 
+-- the conditions of 4, 5, 13 and 6: "node not below n"; "address neither below n nor 63"; "label over 63"; "acknowledgement over 15 or hold over 1"
+abbrev pub badNode : ℕ → Action → Bool
+badNode n a = namesNode (a .kind) && not (ltb (a .node) n)
+
+abbrev pub badAddress : ℕ → Action → Bool
+badAddress n a = namesAddress (a .kind) && not (isAddress n (a .address))
+
+abbrev pub badLabel : Action → Bool
+badLabel a = not (isLabel (a .label))
+
+abbrev pub badAnswer : Action → Bool
+badAnswer a = not (ltb (a .ack) 16 && ltb (a .hold) 2)
+
 -- "then 2 to 6", and 13 "looked at after 5": the first number whose condition holds, or the action
 unfoldable pub read : ℕ → Action → Decoded
 read n a =
     cond (not (isKind (a .kind))) (Refused N.wrong-kind)
     (cond (not (clean a)) (Refused N.stray-field)
-    (cond (namesNode (a .kind) && not (ltb (a .node) n)) (Refused N.wrong-node)
-    (cond (namesAddress (a .kind) && not (isAddress n (a .address))) (Refused N.wrong-address)
-    (cond (not (isLabel (a .label))) (Refused N.wrong-label)
-    (cond (not (ltb (a .ack) 16 && ltb (a .hold) 2)) (Refused N.wrong-answer)
+    (cond (badNode n a) (Refused N.wrong-node)
+    (cond (badAddress n a) (Refused N.wrong-address)
+    (cond (badLabel a) (Refused N.wrong-label)
+    (cond (badAnswer a) (Refused N.wrong-answer)
     (Accepted (moveOf a)))))))

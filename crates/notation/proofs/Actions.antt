@@ -12,7 +12,7 @@ use Rattle.charts.specs.Signals.{everybody}
 use Rattle.charts.specs.declared.Action.{Action}
 use Rattle.charts.specs.declared.Move.{Move}
 use Rattle.charts.specs.declared.Decoded.the-variants as D
-use Rattle.charts.specs.Records.{isKind, namesNode, namesAddress, namesAnswer, namesPacket, clean, isAddress, isLabel, moveOf, read}
+use Rattle.charts.specs.Records.{isKind, namesNode, namesAddress, namesAnswer, namesPacket, clean, moveOf, badNode, badAddress, badLabel, read}
 use Rattle.record.specs.Layout.{Fits}
 use Rattle.runfile.proofs.Loops.{and-left, and-right}
 use Rattle.transcript.specs.Text.{ascii, decimal}
@@ -44,8 +44,7 @@ record Shown (a : Action) : Type 0 where
 shown : (n : ℕ) (a : Action) (m : Move) → read n a ≡ D.Accepted m → Shown a
 unfolding read
 shown n a m h =
-    go (isKind (a .kind)) (clean a) (namesNode (a .kind) && not (ltb (a .node) n)) (namesAddress (a .kind) && not (isAddress n (a .address)))
-    (not (isLabel (a .label))) (ltb (a .ack) 16 && ltb (a .hold) 2) refl refl refl h
+    go (isKind (a .kind)) (clean a) (badNode n a) (badAddress n a) (badLabel a) (ltb (a .ack) 16 && ltb (a .hold) 2) refl refl refl h
   where
     go : (p q r s u t : Bool) → isKind (a .kind) ≡ p → clean a ≡ q → (ltb (a .ack) 16 && ltb (a .hold) 2) ≡ t
         → cond (not p) (D.Refused N.wrong-kind) (cond (not q) (D.Refused N.stray-field) (cond r (D.Refused N.wrong-node) (cond s (D.Refused N.wrong-address)
