@@ -116,7 +116,8 @@ pub struct Cell {
     pub misled: bool,
 }
 
-// A report with its node, or none. Sent, Acked and Miss end with the label of the packet that the node is sending; Good, Dcrc and Broad bear that of the header they read.
+// A report with its node, or none. Sent, Acked and Miss end with the label of the packet that the node is sending; Good, Dcrc and Broad bear
+// that of the header they read.
 pub enum Report {
     Silent,
     Won(u8),

@@ -65,7 +65,7 @@ fn put_four(buf: &mut [u8], at: usize, x: u64) -> usize
     put_pair(buf, last, (x % 100) as u8)
 }
 
-// Four digits a call: an index has few.
+// Four digits a call: most figures take one or two.
 fn put_decimal(buf: &mut [u8], at: usize, x: u64) -> usize
     requires { ⌜ at + length (decimal x) ≤ length (now buf) ⌝ }
     ensures { λ r. ⌜ Puts (now (buf .entry)) at (decimal x) r (now (buf .exit)) ⌝ }
