@@ -15,7 +15,7 @@ use Rattle.charts.specs.Signals.{everybody}
 abbrev pub puts : Signal → Mode → Output
 puts s m = Puts s m Silent
 
--- "Sending puts out in turn Start, Dhead, Dest, Header, Data, End. After End: address 63: report sent, Rest; else AwaitAck." (A step over 5 is no valid state's.)
+-- "Sending puts out in turn Start, Dhead, Dest, Header, Data, End. After End: address 63: report sent, Rest; else AwaitAck." (Request 3: `sent` ends with the packet's label. A step over 5 is no valid state's.)
 abbrev pub sends : ℕ → ℕ → Packet → Output
 sends i k p =
     cond (eqb k 0) (puts Start (Sending 1))

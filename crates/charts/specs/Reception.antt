@@ -37,7 +37,8 @@ abbrev pub broadOf : ℕ → Head → Datum → Report
 broadOf me h (D.Good d) = Broad me h d
 broadOf me h D.Bad = Silent
 
--- what node `me` in a mode does with the signal s, which it meets as one of class c; `label` is that of the packet that the node is sending
+-- what node `me` in a mode does with the signal s, which it meets as one of class c. Request 3: "The reports sent, ack, miss, good, dcrc and broad end with" a label;
+-- ack and miss with `label`, that of the packet that the node is sending, the others here with that of the header h
 abbrev pub answer : ℕ → ℕ → Mode → ℕ → Signal → Heard
 -- Rest (Link0): Start → Opened; else stay
 answer me label Rest c s = cond (eqb c S.start) (goes Opened) (goes Rest)
