@@ -110,7 +110,8 @@ refusalOf n k (Wrong f) = C.Plain
 abbrev pub blamed : Cause → Span → Blamed
 blamed cause s = record { cause = cause; from = s .from; to = s .to }
 
--- the place of a field that begins at a place of the line: as many words stand before it, but "what follows a `*`", the last byte of a word before it, has place 0
+-- the place of the field that begins at byte i: how many words stand before it, or 0 for "what follows a `*`". (That is so where the last byte of text before i is a `*`: a longer
+-- word that ends in one is wrong already, and is itself to blame.)
 unfoldable pub placeAt : List ℕ → ℕ → ℕ
 placeAt line i = cond (eqb (afterLast M.Star line i) (afterLast M.Text line i)) 0 (wordsBefore line i)
 
