@@ -27,7 +27,7 @@ use Rattle.charts.specs.declared.Move.the-variants.{Request}
 use Rattle.charts.specs.declared.Buffer.{Buffer}
 use Rattle.charts.specs.declared.Buffer.the-variants.{Empty, Full}
 use Rattle.charts.specs.Modes as P
-use Rattle.charts.specs.Modes.{placeOf, isTold, isOwed}
+use Rattle.charts.specs.Modes.{placeOf, nameAt, isTold, isOwed}
 use Rattle.charts.specs.Signals as S
 use Rattle.charts.specs.Signals.{everybody, classOf, kindOf, ackOf, isEnd}
 use Rattle.charts.specs.Places.{ackIn}
@@ -45,7 +45,7 @@ use Rattle.charts.proofs.Payload.{OthersIn, sends, Carry, Tells, told-n
 use Rattle.charts.proofs.Stages.{rowAt, turnAt, quiet, grantSteps, clearSteps, Delivery, BusyAt, talks, clears, Stage}
 use Rattle.charts.proofs.Reach.{Reach, answerers, allBelow, mem-below, low-places, step-place, is-talker, no-turn}
 use Rattle.charts.proofs.Ways.{afterGap, passed-by, Puts, start, dhead, dest, header, datum, end-all, end-one, filler, ack-start, ack-body, ack-hold, ack-end, holds-on, Arrives, passes, redirects, bad-header, bad-data, bad-ack, Effect, waits, replies, wins, loses, gives, puts, frees, arrives, drops, grants, grants-none, gaps, settles, resets}
-use Rattle.charts.proofs.Books.{Kept, Runs, ours, By, silent, acks, misses, good, dcrc, broad, by, conf, leaves, remains, holdOf}
+use Rattle.charts.proofs.Books.{Kept, Runs, ours, By, silent, acks, misses, dropped, good, dcrc, broad, by, conf, leaves, remains, holdOf}
 
 -- WHAT A NODE SAYS OF A REQUEST, by its mode: nothing; that it was told; the acknowledgement that its user gave
 pub data Voice : Type 0 where
@@ -415,7 +415,7 @@ module _ (s : State) (bk : ℕ → Book) (v : Heed s bk) (p : Packet) (ca : Carr
     hears-heed : Tells p (hears j label m₀ t .report) → After (λ k. reports (eqb k (nodeOf (hears j label m₀ t .report))) (hears j label m₀ t .report) (bk k))
     hears-heed z = go (hears j label m₀ t .report) (by j label m₀ t) refl z
       where
-        go : (r : Report) → By j label r → r ≡ hears j label m₀ t .report → Tells p r → After (λ k. reports (eqb k (nodeOf r)) r (bk k))
+        go : (r : Report) → By j label (nameAt (placeOf m₀)) r → r ≡ hears j label m₀ t .report → Tells p r → After (λ k. reports (eqb k (nodeOf r)) r (bk k))
         go r silent q y = calm s bk v ph j _ bk (λ k kl o h. refl) (says-same q refl) own-heard ack (v .honest)
         go r (acks {a = a}) q y =
             let e = reports-ack j label m₀ t a q in
@@ -424,6 +424,7 @@ module _ (s : State) (bk : ℕ → Book) (v : Heed s bk) (p : Packet) (ca : Carr
         go r misses q y =
             confirmed s bk v ph j _ (Miss j label) (λ b x. reports b (Miss j label) x) (λ b. refl) (λ b. refl) (says-same q refl) (is-gone q refl)
             (labelled (s .cell j) (bk j) (kp j)) ack
+        go r dropped q y = calm s bk v ph j _ bk (λ k kl o h. refl) (says-same q refl) own-heard ack (v .honest)
         go r good q (told-none e) = never e
         go r good q (told-good e f g) = tells-heed _ (inl (cc)) e (ap (λ r. tells (wordOf r)) (sym q))
         go r dcrc q (told-none e) = never e

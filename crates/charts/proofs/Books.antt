@@ -12,9 +12,10 @@ use Rattle.charts.specs.declared.Seen.the-variants as Sn
 use Rattle.charts.specs.declared.Datum.the-variants as D
 use Rattle.charts.specs.declared.Mode.{Mode}
 use Rattle.charts.specs.declared.Mode.the-variants.{Rest, AwaitAck, AckBody, AckEnd, Opened, Addressed, HeadOwn, HeadAll, BodyOwn, BodyAll, TailOwn, TailAll, Wait, Owed, Sending, Told, Answering, Acking, Holding, Spurious, Listening}
+use Rattle.charts.specs.declared.Reading.{Reading}
 use Rattle.charts.specs.declared.Signal.{Signal}
 use Rattle.charts.specs.declared.Report.{Report}
-use Rattle.charts.specs.declared.Report.the-variants.{Silent, Won, Lost, Sent, Acked, Miss, Good, Dcrc, Broad}
+use Rattle.charts.specs.declared.Report.the-variants.{Silent, Won, Lost, Sent, Acked, Miss, Drop, Good, Dcrc, Broad}
 use Rattle.charts.specs.declared.Packet.{Packet}
 use Rattle.charts.specs.declared.Buffer.{Buffer}
 use Rattle.charts.specs.declared.Buffer.the-variants.{Empty, Full}
@@ -27,7 +28,7 @@ use Rattle.charts.specs.declared.Move.{Move}
 use Rattle.charts.specs.declared.Move.the-variants.{Request, Arbitrate, Respond, Clock, Carry, Grant, GapNext, Reset}
 use Rattle.charts.specs.declared.Action.{Action}
 use Rattle.charts.specs.Modes as P
-use Rattle.charts.specs.Modes.{placeOf, isHolding, isTold, isOwed}
+use Rattle.charts.specs.Modes.{placeOf, nameAt, isHolding, isTold, isOwed}
 use Rattle.charts.specs.Signals as S
 use Rattle.charts.specs.Signals.{everybody, classOf, isLine, closes}
 use Rattle.charts.specs.Places.{holdIn}
@@ -69,41 +70,42 @@ pub record Keeps (m : Mode) (f : Buffer) (p : Packet) (b : Book) : Type 0 where
 abbrev pub Kept : Cell → Book → Type 0
 Kept c b = Keeps (c .mode) (c .buffer) (c .sending) b
 
--- a node that hears a signal reports nothing, or of itself, a confirmation with the label of the packet that it is sending
-pub data By (j label : ℕ) : Report → Type 0 where
-  silent : By j label Silent
-  acks : {a : ℕ} → By j label (Acked j a label)
-  misses : By j label (Miss j label)
-  good : {h : Head} {d : ℕ} → By j label (Good j h d)
-  dcrc : {h : Head} → By j label (Dcrc j h)
-  broad : {h : Head} {d : ℕ} → By j label (Broad j h d)
+-- a node that hears a signal reports nothing, or of itself: a confirmation with the label of the packet that it is sending, a drop with the name x of its mode
+pub data By (j label : ℕ) (x : Reading) : Report → Type 0 where
+  silent : By j label x Silent
+  acks : {a : ℕ} → By j label x (Acked j a label)
+  misses : By j label x (Miss j label)
+  dropped : By j label x (Drop j x)
+  good : {h : Head} {d : ℕ} → By j label x (Good j h d)
+  dcrc : {h : Head} → By j label x (Dcrc j h)
+  broad : {h : Head} {d : ℕ} → By j label x (Broad j h d)
 
-pub by : (j label : ℕ) (m : Mode) (g : Signal) → By j label (hears j label m g .report)
+pub by : (j label : ℕ) (m : Mode) (g : Signal) → By j label (nameAt (placeOf m)) (hears j label m g .report)
 unfolding hears
 by j label m g = go m
   where
     c : ℕ
     c = classOf j g
 
-    arm : (b : Bool) (x y : Heard) → By j label (x .report) → By j label (y .report) → By j label (cond b x y .report)
-    arm b x y = pick (λ (x : Heard). By j label (x .report)) b x y
+    arm : {x : Reading} (b : Bool) (y z : Heard) → By j label x (y .report) → By j label x (z .report) → By j label x (cond b y z .report)
+    arm {x} b y z = pick (λ (y : Heard). By j label x (y .report)) b y z
 
-    go : (m : Mode) → By j label (Reception.answer j label m c g .report)
+    go : (m : Mode) → By j label (nameAt (placeOf m)) (Reception.answer j label m c g .report)
     go Rest = arm (eqb c S.start) _ _ silent silent
     go AwaitAck = arm (eqb c S.prefix) _ _ silent (arm (eqb c S.start) _ _ silent (arm (eqb c S.gap) _ _ misses misses))
     go AckBody = arm (eqb c S.gap) _ _ misses (arm (isLine c) _ _ misses (arm (eqb c S.ackGood) _ _ silent silent))
     go (AckEnd (Sn.Ack a)) = arm (eqb c S.end) _ _ acks (arm (eqb c S.prefix) _ _ acks (arm (eqb c S.gap) _ _ misses misses))
     go (AckEnd Sn.Nothing) = arm (eqb c S.gap) _ _ misses misses
-    go Opened = arm (eqb c S.gap) _ _ silent (arm (isLine c) _ _ silent silent)
-    go Addressed = arm (eqb c S.destOwn) _ _ silent (arm (eqb c S.destAll) _ _ silent (arm (eqb c S.gap) _ _ silent silent))
-    go HeadOwn = arm (eqb c S.headerGood) _ _ silent silent
-    go HeadAll = arm (eqb c S.headerGood) _ _ silent (arm (eqb c S.gap) _ _ silent silent)
-    go (BodyOwn h) = arm (eqb c S.dataGood) _ _ silent (arm (eqb c S.dataBad) _ _ silent silent)
-    go (BodyAll h) = arm (eqb c S.dataGood) _ _ silent (arm (eqb c S.dataBad) _ _ silent (arm (eqb c S.gap) _ _ silent silent))
-    go (TailOwn h (D.Good d)) = arm (closes c) _ _ good silent
-    go (TailOwn h D.Bad) = arm (closes c) _ _ dcrc silent
-    go (TailAll h (D.Good d)) = arm (closes c) _ _ broad (arm (eqb c S.gap) _ _ silent silent)
-    go (TailAll h D.Bad) = arm (closes c) _ _ silent (arm (eqb c S.gap) _ _ silent silent)
+    go Opened = arm (eqb c S.gap) _ _ silent (arm (isLine c) _ _ dropped silent)
+    go Addressed = arm (eqb c S.destOwn) _ _ silent (arm (eqb c S.destAll) _ _ silent (arm (eqb c S.destOther) _ _ silent (arm (eqb c S.gap) _ _ silent dropped)))
+    go HeadOwn = arm (eqb c S.headerGood) _ _ silent dropped
+    go HeadAll = arm (eqb c S.headerGood) _ _ silent (arm (eqb c S.gap) _ _ silent dropped)
+    go (BodyOwn h) = arm (eqb c S.dataGood) _ _ silent (arm (eqb c S.dataBad) _ _ silent dropped)
+    go (BodyAll h) = arm (eqb c S.dataGood) _ _ silent (arm (eqb c S.dataBad) _ _ silent (arm (eqb c S.gap) _ _ silent dropped))
+    go (TailOwn h (D.Good d)) = arm (closes c) _ _ good dropped
+    go (TailOwn h D.Bad) = arm (closes c) _ _ dcrc dropped
+    go (TailAll h (D.Good d)) = arm (closes c) _ _ broad (arm (eqb c S.gap) _ _ silent dropped)
+    go (TailAll h D.Bad) = arm (closes c) _ _ dropped (arm (eqb c S.gap) _ _ silent dropped)
     go Wait = arm (eqb c S.gap) _ _ silent silent
     go Owed = silent
     go (Sending k) = silent
@@ -119,10 +121,11 @@ pub data Of (i : ℕ) (r : Report) : Type 0 where
   nothing : r ≡ Silent → Of i r
   names : nodeOf r ≡ i → Of i r
 
-pub by-of : {j label : ℕ} {r : Report} → By j label r → Of j r
+pub by-of : {j label : ℕ} {x : Reading} {r : Report} → By j label x r → Of j r
 by-of silent = nothing refl
 by-of acks = names refl
 by-of misses = names refl
+by-of dropped = names refl
 by-of good = names refl
 by-of dcrc = names refl
 by-of broad = names refl
@@ -132,7 +135,7 @@ of-node : (i : ℕ) (r : Report) → Of i r → (k : ℕ) (b : Book) → reports
 of-node i r (nothing e) k b = subst (λ r. reports (eqb k (nodeOf r)) r b ≡ reports (eqb k i) r b) (sym e) refl
 of-node i r (names e) k b = ap (λ i. reports (eqb k i) r b) e
 
-pub by-node : (j label : ℕ) (r : Report) → By j label r → (k : ℕ) (b : Book) → reports (eqb k (nodeOf r)) r b ≡ reports (eqb k j) r b
+pub by-node : (j label : ℕ) {x : Reading} (r : Report) → By j label x r → (k : ℕ) (b : Book) → reports (eqb k (nodeOf r)) r b ≡ reports (eqb k j) r b
 by-node j label r x = of-node j r (by-of x)
 
 -- sent, ack and miss by their words: a node that hears reports one of them exactly where it leaves those modes
@@ -227,11 +230,12 @@ hear {m} {f} {p} {b} j label g v = go (hears j label m g .report) (by j label m 
     gone : (r : Report) → (ours (placeOf m) ≡ true) × (ours (placeOf (hears j label m g .mode)) ≡ false) → Keeps (hears j label m g .mode) f p (confirms r (b .running) b)
     gone r o = ends r (hears-hold j label m g) (o .0) (o .1) v
 
-    go : (r : Report) → By j label r → (not (conf (wordOf r)) ≡ true → ours (placeOf (hears j label m g .mode)) ≡ ours (placeOf m)) →
+    go : (r : Report) → By j label (nameAt (placeOf m)) r → (not (conf (wordOf r)) ≡ true → ours (placeOf (hears j label m g .mode)) ≡ ours (placeOf m)) →
         (conf (wordOf r) ≡ true → (ours (placeOf m) ≡ true) × (ours (placeOf (hears j label m g .mode)) ≡ false)) → Keeps (hears j label m g .mode) f p (reports true r b)
     go r silent s l = same (s refl)
     go r acks s l = gone _ (l refl)
     go r misses s l = gone _ (l refl)
+    go r dropped s l = same (s refl)
     go r good s l = noted _ (same (s refl))
     go r dcrc s l = noted _ (same (s refl))
     go r broad s l = noted _ (same (s refl))
@@ -260,6 +264,7 @@ aside-report (Lost i) v = v
 aside-report (Sent i x) v = v
 aside-report (Acked i a x) v = v
 aside-report (Miss i x) v = v
+aside-report (Drop i m) v = v
 aside-report (Good i h d) v = noted _ v
 aside-report (Dcrc i h) v = noted _ v
 aside-report (Broad i h d) v = noted _ v

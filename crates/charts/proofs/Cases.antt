@@ -8,9 +8,10 @@ use lib.ListN.{set, take, drop, replicate}
 use Rattle.charts.specs.declared.Head.{Head}
 use Rattle.charts.specs.declared.Datum.the-variants as D
 use Rattle.charts.specs.declared.Mode.the-variants.{BodyOwn, BodyAll, TailOwn, TailAll}
+use Rattle.charts.specs.declared.Reading.the-variants as Rd
 use Rattle.charts.specs.declared.Signal.the-variants.{Prefix, Header}
 use Rattle.charts.specs.declared.Report.{Report}
-use Rattle.charts.specs.declared.Report.the-variants.{Silent, Won, Lost, Sent, Acked, Miss, Good, Dcrc, Broad}
+use Rattle.charts.specs.declared.Report.the-variants.{Silent, Won, Lost, Sent, Acked, Miss, Drop, Good, Dcrc, Broad}
 use Rattle.charts.specs.declared.Packet.{Packet}
 use Rattle.charts.specs.declared.Buffer.the-variants.{Full}
 use Rattle.charts.specs.declared.Phase.{Phase}
@@ -95,6 +96,7 @@ said i (Lost j) l = at i (Lost j) ∷ l
 said i (Sent j x) l = at i (Sent j x) ∷ l
 said i (Acked j a x) l = at i (Acked j a x) ∷ l
 said i (Miss j x) l = at i (Miss j x) ∷ l
+said i (Drop j m) l = at i (Drop j m) ∷ l
 said i (Good j h d) l = at i (Good j h d) ∷ l
 said i (Dcrc j h) l = at i (Dcrc j h) ∷ l
 said i (Broad j h d) l = at i (Broad j h d) ∷ l
@@ -171,14 +173,14 @@ table =
     ∷ row 2 (b 0) (at 1 (Won 0) ∷ at 13 (Good 1 (head 5 0) 6) ∷ at 21 (Acked 0 1 0) ∷ []) [] 24 Idle
     -- C: "B with change at 11: 13 reports `1 dcrc 5`"
     ∷ row 2 (set (b 0) 11 (change 0)) (at 1 (Won 0) ∷ at 13 (Dcrc 1 (head 5 0)) ∷ at 21 (Acked 0 1 0) ∷ []) [] 24 Idle
-    -- D: "B with lose at 9, nothing reported at 13; grant, clock 1, gap: index 16 reports `0 miss`"
-    ∷ row 2 (take 14 (set (b 0) 9 lose) ++ (grant ∷ clock 1 ∷ gap ∷ [])) (at 1 (Won 0) ∷ at 16 (Miss 0 0) ∷ []) [] 17 (Gapping 1)
+    -- D: "B with lose at 9, nothing reported at 13; grant, clock 1, gap: index 16 reports `0 miss`"; the packet is dropped at 11
+    ∷ row 2 (take 14 (set (b 0) 9 lose) ++ (grant ∷ clock 1 ∷ gap ∷ [])) (at 1 (Won 0) ∷ at 11 (Drop 1 Rd.HeadOwn) ∷ at 16 (Miss 0 0) ∷ []) [] 17 (Gapping 1)
     -- E: "B with lose at 19: 21 reports `0 miss`"
     ∷ row 2 (set (b 0) 19 lose) (at 1 (Won 0) ∷ at 13 (Good 1 (head 5 0) 6) ∷ at 21 (Miss 0 0) ∷ []) [] 24 Idle
-    -- F: "after both grants clock 1 is refused 7 until clock 2"
-    ∷ row 3 f (at 1 (Won 0) ∷ at 18 (Good 1 (head 5 0) 6) ∷ []) (at 22 7 ∷ []) 24 (Delivering 1 Prefix 0)
+    -- F: "after both grants clock 1 is refused 7 until clock 2"; node 2 drops the packet at its Header, which reaches it bad
+    ∷ row 3 f (at 1 (Won 0) ∷ at 13 (Drop 2 Rd.HeadOwn) ∷ at 18 (Good 1 (head 5 0) 6) ∷ []) (at 22 7 ∷ []) 24 (Delivering 1 Prefix 0)
     -- F to its end: the mark is cleared by the next Start, and node 2 hears the packet that is for it
-    ∷ row 3 afterF (at 1 (Won 0) ∷ at 18 (Good 1 (head 5 0) 6) ∷ at 31 (Acked 0 1 0) ∷ at 38 (Won 0) ∷ at 56 (Good 2 (head 7 0) 8) ∷ []) [] 57 Granting
+    ∷ row 3 afterF (at 1 (Won 0) ∷ at 13 (Drop 2 Rd.HeadOwn) ∷ at 18 (Good 1 (head 5 0) 6) ∷ at 31 (Acked 0 1 0) ∷ at 32 (Drop 2 Rd.Addressed) ∷ at 38 (Won 0) ∷ at 56 (Good 2 (head 7 0) 8) ∷ []) [] 57 Granting
     -- I: "acknowledgement 15 taken, 16 refused": B up to its grant, then respond 16, respond 15, and once more (7: the node is Acking by then)
     ∷ row 2 (take 15 (b 0) ++ (respond 1 16 0 ∷ respond 1 15 0 ∷ respond 1 15 0 ∷ [])) (at 1 (Won 0) ∷ at 13 (Good 1 (head 5 0) 6) ∷ []) (at 15 6 ∷ at 17 7 ∷ []) 16 Busy
     -- the reply heard and acknowledged
@@ -190,11 +192,17 @@ table =
     -- labels: B, C, D and E with one
     ∷ row 2 (b 7) (at 1 (Won 0) ∷ at 13 (Good 1 (head 5 7) 6) ∷ at 21 (Acked 0 1 7) ∷ []) [] 24 Idle
     ∷ row 2 (set (b 62) 11 (change 0)) (at 1 (Won 0) ∷ at 13 (Dcrc 1 (head 5 62)) ∷ at 21 (Acked 0 1 62) ∷ []) [] 24 Idle
-    ∷ row 2 (take 14 (set (b 1) 9 lose) ++ (grant ∷ clock 1 ∷ gap ∷ [])) (at 1 (Won 0) ∷ at 16 (Miss 0 1) ∷ []) [] 17 (Gapping 1)
+    ∷ row 2 (take 14 (set (b 1) 9 lose) ++ (grant ∷ clock 1 ∷ gap ∷ [])) (at 1 (Won 0) ∷ at 11 (Drop 1 Rd.HeadOwn) ∷ at 16 (Miss 0 1) ∷ []) [] 17 (Gapping 1)
     ∷ row 2 (set (b 63) 19 lose) (at 1 (Won 0) ∷ at 13 (Good 1 (head 5 63) 6) ∷ at 21 (Miss 0 63) ∷ []) [] 24 Idle
     -- the reply's acknowledgement is lost while another packet waits in the buffer: the miss bears the reply's label; and the packet that waited is sent with its own
     ∷ row 2 (set waiting 41 lose ++ (arbitrate 1 ∷ times 6 (clock 1 ∷ pass ∷ [])))
     (at 2 (Won 0) ∷ at 14 (Good 1 (head 5 7) 6) ∷ at 22 (Acked 0 1 7) ∷ at 35 (Good 0 (head 7 8) 8) ∷ at 43 (Miss 1 8) ∷ at 46 (Won 1) ∷ at 58 (Good 0 (head 1 9) 2) ∷ []) [] 59 Granting
+    -- drops: B with the header changed, with the data lost; A with the header lost, with the data lost, with the data changed
+    ∷ row 2 (take 14 (set (b 0) 9 (change 0))) (at 1 (Won 0) ∷ at 9 (Drop 1 Rd.HeadOwn) ∷ []) [] 14 Granting
+    ∷ row 2 (take 14 (set (b 0) 11 lose)) (at 1 (Won 0) ∷ at 13 (Drop 1 Rd.BodyOwn) ∷ []) [] 14 Granting
+    ∷ row 2 (set a 9 lose) (at 1 (Won 0) ∷ at 11 (Drop 1 Rd.HeadAll) ∷ at 12 (Sent 0 0) ∷ []) [] 16 Idle
+    ∷ row 2 (set a 11 lose) (at 1 (Won 0) ∷ at 12 (Sent 0 0) ∷ at 13 (Drop 1 Rd.BodyAll) ∷ []) [] 16 Idle
+    ∷ row 2 (set a 11 (change 0)) (at 1 (Won 0) ∷ at 12 (Sent 0 0) ∷ at 13 (Drop 1 Rd.TailAll) ∷ []) [] 16 Idle
     ∷ []
 
 pub cases : map (λ (r : Row). shows (r .nodes) (r .actions)) table ≡ map (λ (r : Row). r .shown) table

@@ -10,6 +10,7 @@ pub mod Ends
 pub mod Replies
 pub mod Open
 pub mod Books
+pub mod Drops
 pub mod Tally
 pub mod Stretches
 pub mod Validity

@@ -150,8 +150,8 @@ module _ (p : Packet) (k label : ℕ) (w : Bool) where
   plain : {m : Mode} {r : Report} → mem (placeOf m) blank ≡ true → ltb (wordOf r) W.good ≡ true → (Bears p k w m) × (Tells p r)
   plain e f = (nothing e, told-none f)
 
-  falling : (c : ℕ) → Fine (falls Silent Silent c)
-  falling c = pick Fine (eqb c S.gap) _ _ (plain refl refl) (plain refl refl)
+  falling : (r : Report) → ltb (wordOf r) W.good ≡ true → (c : ℕ) → Fine (falls Silent r c)
+  falling r t c = pick Fine (eqb c S.gap) _ _ (plain refl refl) (plain refl t)
 
   heard : {m : Mode} (g : Signal) → Says p w g → Bears p k w m → Fine (hears k label m g)
   unfolding hears
@@ -160,24 +160,24 @@ module _ (p : Packet) (k label : ℕ) (w : Bool) where
       (λ q. subst (λ (m : Mode). Fine (hears k label m g)) (sym (mode-is m P.addressed (eqb-true _ _ q)))
       (pick-by Fine (eqb (classOf k g) S.destOwn) _ _ (λ e. (led-own (λ o. sym (subst (Says p w) (signal-is k g S.destOwn e) z o)), told-none refl)) λ n.
       pick-by Fine (eqb (classOf k g) S.destAll) _ _ (λ e. (led-all (λ o. sym (subst (Says p w) (signal-is k g S.destAll e) z o)), told-none refl)) λ n.
-      falling (classOf k g)))
+      pick Fine (eqb (classOf k g) S.destOther) _ _ (plain refl refl) (falling _ refl (classOf k g))))
       (λ q. let y = and-true _ _ (implied _ _ (implied _ _
       (law (λ y p c. implies (not (eqb p P.addressed)) (implies (mem p blank) (mem (y .place) blank && ltb (y .word) W.good))) tt k label m g) (ap not q)) e) in plain (y .0) (y .1))
   heard g z (led-own f) =
       pick-by Fine (eqb (classOf k g) S.headerGood) _ _ (λ e. let y = subst (Says p w) (signal-is k g S.headerGood e) z in (head-own (f (y .0 refl)) (y .1), told-none refl)) (λ e. plain refl refl)
   heard g z (led-all f) =
       pick-by Fine (eqb (classOf k g) S.headerGood) _ _ (λ e. let y = subst (Says p w) (signal-is k g S.headerGood e) z in (head-all (f (y .0 refl)) (y .1), told-none refl)) λ e.
-      falling (classOf k g)
+      falling _ refl (classOf k g)
   heard g z (head-own a h) =
       pick-by Fine (eqb (classOf k g) S.dataGood) _ _ (λ e. (tail-own a h (subst (Says p w) (signal-is k g S.dataGood e) z), told-none refl)) λ e.
       pick Fine (eqb (classOf k g) S.dataBad) _ _ (tail-own a h tt, told-none refl) (plain refl refl)
   heard g z (head-all a h) =
       pick-by Fine (eqb (classOf k g) S.dataGood) _ _ (λ e. (tail-all a h (subst (Says p w) (signal-is k g S.dataGood e) z), told-none refl)) λ e.
-      pick Fine (eqb (classOf k g) S.dataBad) _ _ (tail-all a h tt, told-none refl) (falling (classOf k g))
+      pick Fine (eqb (classOf k g) S.dataBad) _ _ (tail-all a h tt, told-none refl) (falling _ refl (classOf k g))
   heard g z (tail-own {d = D.Good d} a h r) = pick Fine (closes (classOf k g)) _ _ (answers refl a, told-good a h r) (plain refl refl)
   heard g z (tail-own {d = D.Bad} a h r) = pick Fine (closes (classOf k g)) _ _ (answers refl a, told-dcrc a h) (plain refl refl)
-  heard g z (tail-all {d = D.Good d} a h r) = pick Fine (closes (classOf k g)) _ _ (nothing refl, told-broad a) (falling (classOf k g))
-  heard g z (tail-all {d = D.Bad} a h r) = pick Fine (closes (classOf k g)) _ _ (plain refl refl) (falling (classOf k g))
+  heard g z (tail-all {d = D.Good d} a h r) = pick Fine (closes (classOf k g)) _ _ (nothing refl, told-broad a) (falling _ refl (classOf k g))
+  heard g z (tail-all {d = D.Bad} a h r) = pick Fine (closes (classOf k g)) _ _ (plain refl refl) (falling _ refl (classOf k g))
   heard g z (answers {m = m} e a) =
       let y = and-true _ _ (implied _ _ (law (λ y p c. implies (mem p answerers) (mem (y .place) answerers && ltb (y .word) W.good)) tt k label m g) e) in (answers (y .0) a, told-none (y .1))
 

@@ -9,7 +9,7 @@ use native.Mathlib.Omega.{arith}
 use lib.Dec.{eqb}
 use borrow.Author.Tests.{eqb-true, eq-eqb}
 use Rattle.charts.specs.declared.Report.{Report}
-use Rattle.charts.specs.declared.Report.the-variants.{Silent, Won, Lost, Sent, Acked, Miss, Good, Dcrc, Broad}
+use Rattle.charts.specs.declared.Report.the-variants.{Silent, Won, Lost, Sent, Acked, Miss, Drop, Good, Dcrc, Broad}
 use Rattle.charts.specs.declared.Packet.{Packet}
 use Rattle.charts.specs.declared.Buffer.{Buffer}
 use Rattle.charts.specs.declared.Buffer.the-variants.{Empty, Full}
@@ -277,6 +277,7 @@ module _ (i : ℕ) (l : List Event) (b : Book) (v : Story i l b) where
     report false (Acked j a x) q w = passes i l _ b v (calm (Acked j a x) refl) (other (Acked j a x) refl q) (both _ _ (s .no-respond) refl)
     report true (Miss j x) q w = confirmed i l _ b v (calm (Miss j x) refl) (Miss j x) (b .running) w
     report false (Miss j x) q w = passes i l _ b v (calm (Miss j x) refl) (other (Miss j x) refl q) (both _ _ (s .no-respond) refl)
+    report mine (Drop j d) q w = passes i l _ b v (calm (Drop j d) refl) (other (Drop j d) refl refl) (both _ _ (s .no-respond) refl)
     report mine (Good j h d) q w = noted i l _ b v (calm (Good j h d) refl) (other (Good j h d) refl refl) (told (Good j h d)) tells
     report mine (Dcrc j h) q w = noted i l _ b v (calm (Dcrc j h) refl) (other (Dcrc j h) refl refl) (told (Dcrc j h)) tells
     report mine (Broad j h d) q w = noted i l _ b v (calm (Broad j h d) refl) (other (Broad j h d) refl refl) (told (Broad j h d)) tells
@@ -331,6 +332,7 @@ confirmation i (Lost j) e = never e
 confirmation i (Sent j x) e = subst (λ j. Confirmation i (Sent j x)) (eqb-true i j e) sent
 confirmation i (Acked j a x) e = subst (λ j. Confirmation i (Acked j a x)) (eqb-true i j e) acked
 confirmation i (Miss j x) e = subst (λ j. Confirmation i (Miss j x)) (eqb-true i j e) missed
+confirmation i (Drop j m) e = never e
 confirmation i (Good j h d) e = never e
 confirmation i (Dcrc j h) e = never e
 confirmation i (Broad j h d) e = never e

@@ -8,7 +8,7 @@ use native.Mathlib.Omega.{arith}
 use lib.Dec.{eqb}
 use lib.ListN.{length, length-append}
 use Rattle.charts.specs.declared.Report.{Report}
-use Rattle.charts.specs.declared.Report.the-variants.{Silent, Won, Lost, Sent, Acked, Miss, Good, Dcrc, Broad}
+use Rattle.charts.specs.declared.Report.the-variants.{Silent, Won, Lost, Sent, Acked, Miss, Drop, Good, Dcrc, Broad}
 use Rattle.charts.specs.declared.Packet.{Packet}
 use Rattle.charts.specs.declared.Buffer.{Buffer}
 use Rattle.charts.specs.declared.Buffer.the-variants.{Empty, Full}
@@ -73,6 +73,7 @@ reports-adds true (Acked i a x) b w = confirms-adds (Acked i a x) (b .running) b
 reports-adds false (Acked i a x) b w = stays b w
 reports-adds true (Miss i x) b w = confirms-adds (Miss i x) (b .running) b refl w
 reports-adds false (Miss i x) b w = stays b w
+reports-adds mine (Drop i m) b w = stays b w
 reports-adds mine (Good i h d) b w = noted (told (Good i h d)) false false b w
 reports-adds mine (Dcrc i h) b w = noted (told (Dcrc i h)) false false b w
 reports-adds mine (Broad i h d) b w = noted (told (Broad i h d)) false false b w

@@ -123,9 +123,9 @@ hears-fits n me label m g e =
     at P.acking (λ f. f) λ q2.
     at P.ackBody (λ f. pick Fits (eqb c S.gap) _ _ refl (pick Fits (isLine c) _ _ refl (pick Fits (eqb c S.ackGood) _ _ (ack-fits n g e) refl))) λ q3.
     at P.headOwn (λ f. pick Fits (eqb c S.headerGood) _ _ (label-fits n g e) refl) λ q4.
-    at P.headAll (λ f. pick Fits (eqb c S.headerGood) _ _ (label-fits n g e) falling) λ q5.
+    at P.headAll (λ f. pick Fits (eqb c S.headerGood) _ _ (label-fits n g e) (falling _)) λ q5.
     at P.bodyOwn (λ f. pick Fits (eqb c S.dataGood) _ _ f (pick Fits (eqb c S.dataBad) _ _ f refl)) λ q6.
-    at P.bodyAll (λ f. pick Fits (eqb c S.dataGood) _ _ f (pick Fits (eqb c S.dataBad) _ _ f falling)) λ q7.
+    at P.bodyAll (λ f. pick Fits (eqb c S.dataGood) _ _ f (pick Fits (eqb c S.dataBad) _ _ f (falling _))) λ q7.
     λ f. bare-fits (hears me label m g .mode) (rw (q1, q2, q3, q4, q5, q6, q7) at (law (λ y p c. implies (not (mem p remembering)) (bare (y .place))) tt me label m g))
   where
     remembering : List ℕ
@@ -140,8 +140,8 @@ hears-fits n me label m g e =
     Kept : Mode → Type 0
     Kept m = modeFits m ≡ true → Fits (hears me label m g)
 
-    falling : Fits (falls Silent Silent c)
-    falling = pick Fits (eqb c S.gap) _ _ refl refl
+    falling : (r : Report) → Fits (falls Silent r c)
+    falling r = pick Fits (eqb c S.gap) _ _ refl refl
 
     at : (p : ℕ) → Kept (getD (modes (stepIn m) (ackIn m) (holdIn m) (headIn m) (datumIn m)) p Spurious) → (eqb (placeOf m) p ≡ false → Kept m) → Kept m
     at p y n = by-test (eqb (placeOf m) p) (λ q. subst Kept (sym (mode-is m p (eqb-true _ _ q))) y) n

@@ -8,7 +8,7 @@ use lib.Dec.{eqb}
 use lib.ListN.{length}
 use Rattle.charts.specs.declared.Mode.the-variants.{Rest}
 use Rattle.charts.specs.declared.Report.{Report}
-use Rattle.charts.specs.declared.Report.the-variants.{Silent, Won, Lost, Sent, Acked, Miss, Good, Dcrc, Broad}
+use Rattle.charts.specs.declared.Report.the-variants.{Silent, Won, Lost, Sent, Acked, Miss, Drop, Good, Dcrc, Broad}
 use Rattle.charts.specs.declared.Packet.{Packet}
 use Rattle.charts.specs.declared.Buffer.{Buffer}
 use Rattle.charts.specs.declared.Buffer.the-variants.{Empty, Full}
@@ -97,6 +97,7 @@ nodeOf (Lost i) = i
 nodeOf (Sent i x) = i
 nodeOf (Acked i a x) = i
 nodeOf (Miss i x) = i
+nodeOf (Drop i m) = i
 nodeOf (Good i h d) = i
 nodeOf (Dcrc i h) = i
 nodeOf (Broad i h d) = i
@@ -124,6 +125,7 @@ reports true (Acked i a x) b = confirms (Acked i a x) (b .running) b
 reports false (Acked i a x) b = b
 reports true (Miss i x) b = confirms (Miss i x) (b .running) b
 reports false (Miss i x) b = b
+reports mine (Drop i m) b = b
 reports mine (Good i h d) b = notes (told (Good i h d)) b
 reports mine (Dcrc i h) b = notes (told (Dcrc i h)) b
 reports mine (Broad i h d) b = notes (told (Broad i h d)) b
@@ -157,6 +159,7 @@ answered mine (Lost i) = 0
 answered mine (Sent i x) = one mine
 answered mine (Acked i a x) = one mine
 answered mine (Miss i x) = one mine
+answered mine (Drop i m) = 0
 answered mine (Good i h d) = 0
 answered mine (Dcrc i h) = 0
 answered mine (Broad i h d) = 0
@@ -193,6 +196,7 @@ Honest p l (Lost i) = Unit {0}
 Honest p l (Sent i x) = Labelled p x
 Honest p l (Acked i a x) = (Labelled p x) × (Acknowledged p a l)
 Honest p l (Miss i x) = Labelled p x
+Honest p l (Drop i m) = Unit {0}
 Honest p l (Good i h d) = Unit {0}
 Honest p l (Dcrc i h) = Unit {0}
 Honest p l (Broad i h d) = Unit {0}

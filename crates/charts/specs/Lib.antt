@@ -5,6 +5,7 @@ pub mod Words
 pub mod Places
 pub mod Reception
 pub mod Table
+pub mod Drops
 pub mod Outputs
 pub mod Arrivals
 pub mod State

@@ -1,12 +1,14 @@
 -- The places of the modes in document 01's list, the good one of two first: AckEnd with a good Ack or without, TailOwn and TailAll with good or bad data.
 -- (Request 2's table has its lines in this order, and new modes come last.)
-use mathlib.Core.Bool.{Bool}
+use mathlib.Core.Bool.{Bool, cond}
 use Prim.Native.Nat.{ℕ}
 use lib.Dec.{eqb}
 use Rattle.charts.specs.declared.Seen.the-variants as Sn
 use Rattle.charts.specs.declared.Datum.the-variants as D
 use Rattle.charts.specs.declared.Mode.{Mode}
 use Rattle.charts.specs.declared.Mode.the-variants.{Rest, AwaitAck, AckBody, AckEnd, Opened, Addressed, HeadOwn, HeadAll, BodyOwn, BodyAll, TailOwn, TailAll, Wait, Owed, Sending, Told, Answering, Acking, Holding, Spurious, Listening}
+use Rattle.charts.specs.declared.Reading.{Reading}
+use Rattle.charts.specs.declared.Reading.the-variants as Rd
 
 abbrev pub rest : ℕ
 rest = 0
@@ -105,6 +107,18 @@ placeOf (Acking k a b) = acking
 placeOf Holding = holding
 placeOf Spurious = spurious
 placeOf Listening = listening
+
+-- "the name of the mode", for the places from Opened to TailAll: it says nothing of good or bad data
+abbrev pub nameAt : ℕ → Reading
+nameAt p =
+    cond (eqb p opened) Rd.Opened
+    (cond (eqb p addressed) Rd.Addressed
+    (cond (eqb p headOwn) Rd.HeadOwn
+    (cond (eqb p headAll) Rd.HeadAll
+    (cond (eqb p bodyOwn) Rd.BodyOwn
+    (cond (eqb p bodyAll) Rd.BodyAll
+    (cond (eqb p tailOwnGood) Rd.TailOwn
+    (cond (eqb p tailOwnBad) Rd.TailOwn Rd.TailAll)))))))
 
 abbrev pub isRest : Mode → Bool
 isRest m = eqb (placeOf m) rest

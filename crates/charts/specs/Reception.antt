@@ -8,10 +8,11 @@ use Rattle.charts.specs.declared.Datum.{Datum}
 use Rattle.charts.specs.declared.Datum.the-variants as D
 use Rattle.charts.specs.declared.Mode.{Mode}
 use Rattle.charts.specs.declared.Mode.the-variants.{Rest, AwaitAck, AckBody, AckEnd, Opened, Addressed, HeadOwn, HeadAll, BodyOwn, BodyAll, TailOwn, TailAll, Wait, Owed, Sending, Told, Answering, Acking, Holding, Spurious, Listening}
+use Rattle.charts.specs.declared.Reading.the-variants as Rd
 use Rattle.charts.specs.declared.Signal.{Signal}
 use Rattle.charts.specs.declared.Signal.the-variants.{Ack}
 use Rattle.charts.specs.declared.Report.{Report}
-use Rattle.charts.specs.declared.Report.the-variants.{Silent, Acked, Miss, Good, Dcrc, Broad}
+use Rattle.charts.specs.declared.Report.the-variants.{Silent, Acked, Miss, Drop, Good, Dcrc, Broad}
 use Rattle.charts.specs.declared.Heard.{Heard}
 use Rattle.charts.specs.Signals as S
 use Rattle.charts.specs.Signals.{classOf, isLine, closes, headOf, datumOf, ackOf}
@@ -32,10 +33,10 @@ abbrev pub toldOf : ℕ → Head → Datum → Report
 toldOf me h (D.Good d) = Good me h d
 toldOf me h D.Bad = Dcrc me h
 
--- "report broad h d if the data were good, else nothing"
+-- "report broad h d if the data were good"; request 4: "TailAll with bad data reports drop TailAll on End or Prefix too, though it goes to Rest"
 abbrev pub broadOf : ℕ → Head → Datum → Report
 broadOf me h (D.Good d) = Broad me h d
-broadOf me h D.Bad = Silent
+broadOf me h D.Bad = Drop me Rd.TailAll
 
 -- what node `me` in a mode does with the signal s, which it meets as one of class c. Request 3: "The reports sent, ack, miss, good, dcrc and broad end with" a label;
 -- ack and miss with `label`, that of the packet that the node is sending, the others here with that of the header h
@@ -52,24 +53,27 @@ answer me label AckBody c s =
 answer me label (AckEnd (Sn.Ack a)) c s =
     cond (eqb c S.end) (tells Wait (Acked me a label)) (cond (eqb c S.prefix) (tells Listening (Acked me a label)) (falls (Miss me label) (Miss me label) c))
 answer me label (AckEnd Sn.Nothing) c s = falls (Miss me label) (Miss me label) c
+-- From here to TailAll, request 4: "When a node in Opened through the Tail modes goes to Wait or Owed, the report becomes drop and the name of the mode it left. A Gap to Rest is no drop, nor is a Dest
+-- of another node met in Addressed."
 -- Opened (4): Gap → Rest; another line signal → Wait; else → Addressed
-answer me label Opened c s = cond (eqb c S.gap) (goes Rest) (cond (isLine c) (goes Wait) (goes Addressed))
+answer me label Opened c s = cond (eqb c S.gap) (goes Rest) (cond (isLine c) (tells Wait (Drop me Rd.Opened)) (goes Addressed))
 -- Addressed (4DH): Dest of itself → HeadOwn, and the node is entered as pending on the bus; Dest 63 → HeadAll; Gap → Rest; else Wait
 answer me label Addressed c s =
     cond (eqb c S.destOwn) (record { mode = HeadOwn; report = Silent; pends = true })
-    (cond (eqb c S.destAll) (goes HeadAll) (falls Silent Silent c))
+    (cond (eqb c S.destAll) (goes HeadAll)
+    (cond (eqb c S.destOther) (goes Wait) (falls Silent (Drop me Rd.Addressed) c)))
 -- HeadOwn / HeadAll (4RH): good Header → BodyOwn / BodyAll; else Owed / Wait. HeadAll on Gap → Rest
-answer me label HeadOwn c s = cond (eqb c S.headerGood) (goes (BodyOwn (headOf s))) (goes Owed)
-answer me label HeadAll c s = cond (eqb c S.headerGood) (goes (BodyAll (headOf s))) (falls Silent Silent c)
+answer me label HeadOwn c s = cond (eqb c S.headerGood) (goes (BodyOwn (headOf s))) (tells Owed (Drop me Rd.HeadOwn))
+answer me label HeadAll c s = cond (eqb c S.headerGood) (goes (BodyAll (headOf s))) (falls Silent (Drop me Rd.HeadAll) c)
 -- BodyOwn / BodyAll (4RD): Data, good or bad → TailOwn / TailAll; else Owed / Wait. BodyAll on Gap → Rest
 answer me label (BodyOwn h) c s =
-    cond (eqb c S.dataGood) (goes (TailOwn h (D.Good (datumOf s)))) (cond (eqb c S.dataBad) (goes (TailOwn h D.Bad)) (goes Owed))
+    cond (eqb c S.dataGood) (goes (TailOwn h (D.Good (datumOf s)))) (cond (eqb c S.dataBad) (goes (TailOwn h D.Bad)) (tells Owed (Drop me Rd.BodyOwn)))
 answer me label (BodyAll h) c s =
-    cond (eqb c S.dataGood) (goes (TailAll h (D.Good (datumOf s)))) (cond (eqb c S.dataBad) (goes (TailAll h D.Bad)) (falls Silent Silent c))
+    cond (eqb c S.dataGood) (goes (TailAll h (D.Good (datumOf s)))) (cond (eqb c S.dataBad) (goes (TailAll h D.Bad)) (falls Silent (Drop me Rd.BodyAll) c))
 -- TailOwn: End or Prefix: report good h d, or dcrc h for bad data, and go to Told; else Owed
-answer me label (TailOwn h d) c s = cond (closes c) (tells Told (toldOf me h d)) (goes Owed)
--- TailAll: End or Prefix: report broad h d if the data were good, else nothing, and go to Rest; Gap → Rest; else Wait
-answer me label (TailAll h d) c s = cond (closes c) (tells Rest (broadOf me h d)) (falls Silent Silent c)
+answer me label (TailOwn h d) c s = cond (closes c) (tells Told (toldOf me h d)) (tells Owed (Drop me Rd.TailOwn))
+-- TailAll: End or Prefix: report broad h d if the data were good, else drop, and go to Rest; Gap → Rest; else Wait
+answer me label (TailAll h d) c s = cond (closes c) (tells Rest (broadOf me h d)) (falls Silent (Drop me Rd.TailAll) c)
 -- Wait (WSA): Gap → Rest; else stay
 answer me label Wait c s = falls Silent Silent c
 -- Owed (WSA with a grant to come) stays

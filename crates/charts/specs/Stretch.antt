@@ -5,7 +5,7 @@ use mathlib.Core.List.{List, [], _∷_, _++_}
 use Prim.Native.Nat.{ℕ}
 use lib.Dec.{eqb}
 use Rattle.charts.specs.declared.Report.{Report}
-use Rattle.charts.specs.declared.Report.the-variants.{Silent, Won, Lost, Sent, Acked, Miss, Good, Dcrc, Broad}
+use Rattle.charts.specs.declared.Report.the-variants.{Silent, Won, Lost, Sent, Acked, Miss, Drop, Good, Dcrc, Broad}
 use Rattle.charts.specs.declared.Packet.{Packet}
 use Rattle.charts.specs.declared.Move.{Move}
 use Rattle.charts.specs.declared.Move.the-variants.{Request, Arbitrate, Respond, Clock, Carry, Grant, GapNext, Reset}
@@ -50,6 +50,7 @@ wonOf i (Lost j) = false
 wonOf i (Sent j x) = false
 wonOf i (Acked j a x) = false
 wonOf i (Miss j x) = false
+wonOf i (Drop j m) = false
 wonOf i (Good j h d) = false
 wonOf i (Dcrc j h) = false
 wonOf i (Broad j h d) = false
@@ -61,6 +62,7 @@ confirmationOf i (Lost j) = false
 confirmationOf i (Sent j x) = eqb i j
 confirmationOf i (Acked j a x) = eqb i j
 confirmationOf i (Miss j x) = eqb i j
+confirmationOf i (Drop j m) = false
 confirmationOf i (Good j h d) = false
 confirmationOf i (Dcrc j h) = false
 confirmationOf i (Broad j h d) = false
@@ -97,6 +99,7 @@ tellsNone (Lost i) = true
 tellsNone (Sent i x) = true
 tellsNone (Acked i a x) = true
 tellsNone (Miss i x) = true
+tellsNone (Drop i m) = true
 tellsNone (Good i h d) = false
 tellsNone (Dcrc i h) = false
 tellsNone (Broad i h d) = false

@@ -1,7 +1,7 @@
 -- The first words of the reports by number, in the order of the type: those that tell come last. (`-` is the word of no report.)
 use Prim.Native.Nat.{ℕ}
 use Rattle.charts.specs.declared.Report.{Report}
-use Rattle.charts.specs.declared.Report.the-variants.{Silent, Won, Lost, Sent, Acked, Miss, Good, Dcrc, Broad}
+use Rattle.charts.specs.declared.Report.the-variants.{Silent, Won, Lost, Sent, Acked, Miss, Drop, Good, Dcrc, Broad}
 
 abbrev pub silent : ℕ
 silent = 0
@@ -21,14 +21,17 @@ acked = 4
 abbrev pub miss : ℕ
 miss = 5
 
+abbrev pub drop : ℕ
+drop = 6
+
 abbrev pub good : ℕ
-good = 6
+good = 7
 
 abbrev pub dcrc : ℕ
-dcrc = 7
+dcrc = 8
 
 abbrev pub broad : ℕ
-broad = 8
+broad = 9
 
 abbrev pub wordOf : Report → ℕ
 wordOf Silent = silent
@@ -37,6 +40,7 @@ wordOf (Lost i) = lost
 wordOf (Sent i x) = sent
 wordOf (Acked i a x) = acked
 wordOf (Miss i x) = miss
+wordOf (Drop i m) = drop
 wordOf (Good i h d) = good
 wordOf (Dcrc i h) = dcrc
 wordOf (Broad i h d) = broad

@@ -53,6 +53,18 @@ pub enum Mode {
     Listening,
 }
 
+// The modes in which a node reads a packet, by name: a drop names the one that the node left.
+pub enum Reading {
+    Opened,
+    Addressed,
+    HeadOwn,
+    HeadAll,
+    BodyOwn,
+    BodyAll,
+    TailOwn,
+    TailAll,
+}
+
 // A signal. The bool of Header, Data and Ack is its check: true for good.
 pub enum Signal {
     Start,
@@ -125,6 +137,7 @@ pub enum Report {
     Sent(u8, u8),
     Acked(u8, u8, u8),
     Miss(u8, u8),
+    Drop(u8, Reading),
     Good(u8, Head, u32),
     Dcrc(u8, Head),
     Broad(u8, Head, u32),
