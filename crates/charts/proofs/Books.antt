@@ -81,7 +81,7 @@ pub data By (j label : ℕ) (x : Reading) : Report → Type 0 where
   broad : {h : Head} {d : ℕ} → By j label x (Broad j h d)
 
 pub by : (j label : ℕ) (m : Mode) (g : Signal) → By j label (nameAt (placeOf m)) (hears j label m g .report)
-unfolding hears
+unfolding hears nameAt
 by j label m g = go m
   where
     c : ℕ

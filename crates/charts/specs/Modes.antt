@@ -109,7 +109,7 @@ placeOf Spurious = spurious
 placeOf Listening = listening
 
 -- "the name of the mode", for the places from Opened to TailAll: it says nothing of good or bad data
-abbrev pub nameAt : ℕ → Reading
+unfoldable pub nameAt : ℕ → Reading
 nameAt p =
     cond (eqb p opened) Rd.Opened
     (cond (eqb p addressed) Rd.Addressed

@@ -129,7 +129,7 @@ pub struct Cell {
 }
 
 // A report with its node, or none. Sent, Acked and Miss end with the label of the packet that the node is sending; Good, Dcrc and Broad bear
-// that of the header they read.
+// that of the header they read. Drop names the mode that the node left.
 pub enum Report {
     Silent,
     Won(u8),

@@ -11,8 +11,10 @@ pub const ACK: u8 = 4;
 
 pub const MISS: u8 = 5;
 
-pub const GOOD: u8 = 6;
+pub const DROP: u8 = 6;
 
-pub const DCRC: u8 = 7;
+pub const GOOD: u8 = 7;
 
-pub const BROAD: u8 = 8;
+pub const DCRC: u8 = 8;
+
+pub const BROAD: u8 = 9;

@@ -10,7 +10,7 @@ use Rattle.charts.specs.declared.Mode.{Mode}
 use Rattle.charts.specs.declared.Mode.the-variants.{Rest, AwaitAck, AckBody, AckEnd, Opened, Addressed, HeadOwn, HeadAll, BodyOwn, BodyAll, TailOwn, TailAll, Wait, Owed, Sending, Told, Answering, Acking, Holding, Spurious, Listening}
 use Rattle.charts.specs.declared.Signal.{Signal}
 use Rattle.charts.specs.declared.Heard.{Heard}
-use Rattle.charts.specs.Modes.{placeOf}
+use Rattle.charts.specs.Modes.{placeOf, nameAt}
 use Rattle.charts.specs.Signals as S
 use Rattle.charts.specs.Signals.{classOf, isLine, closes}
 use Rattle.charts.specs.Reception.{answer, hears}
@@ -29,6 +29,7 @@ cell-is p c l k = eqb-true _ _ (pairs-at (λ p c. eqb (getD cells (indexOf p c) 
 
 -- a node that reads the cell of what the chart says does just that: nothing that a mode remembers is lost
 kept : (me label : ℕ) (m : Mode) (c : ℕ) (s : Signal) → reads (code (entryOf (answer me label m c s))) me label m s ≡ answer me label m c s
+unfolding nameAt
 kept me label m c s = go m
   where
     Kept : Mode → Heard → Type 0
@@ -41,7 +42,7 @@ kept me label m c s = go m
     go (AckEnd (Sn.Ack a)) = let K = Kept (AckEnd (Sn.Ack a)) in pick K (eqb c S.end) _ _ refl (pick K (eqb c S.prefix) _ _ refl (pick K (eqb c S.gap) _ _ refl refl))
     go (AckEnd Sn.Nothing) = pick (Kept (AckEnd Sn.Nothing)) (eqb c S.gap) _ _ refl refl
     go Opened = pick (Kept Opened) (eqb c S.gap) _ _ refl (pick (Kept Opened) (isLine c) _ _ refl refl)
-    go Addressed = pick (Kept Addressed) (eqb c S.destOwn) _ _ refl (pick (Kept Addressed) (eqb c S.destAll) _ _ refl (pick (Kept Addressed) (eqb c S.gap) _ _ refl refl))
+    go Addressed = let K = Kept Addressed in pick K (eqb c S.destOwn) _ _ refl (pick K (eqb c S.destAll) _ _ refl (pick K (eqb c S.destOther) _ _ refl (pick K (eqb c S.gap) _ _ refl refl)))
     go HeadOwn = pick (Kept HeadOwn) (eqb c S.headerGood) _ _ refl refl
     go HeadAll = pick (Kept HeadAll) (eqb c S.headerGood) _ _ refl (pick (Kept HeadAll) (eqb c S.gap) _ _ refl refl)
     go (BodyOwn h) = pick (Kept (BodyOwn h)) (eqb c S.dataGood) _ _ refl (pick (Kept (BodyOwn h)) (eqb c S.dataBad) _ _ refl refl)

@@ -10,11 +10,11 @@ use Rattle.charts.specs.declared.Mode.{Mode}
 use Rattle.charts.specs.declared.Mode.the-variants.{Rest, AckBody, AckEnd, Opened, Addressed, HeadOwn, HeadAll, BodyOwn, BodyAll, TailOwn, TailAll, Wait, Owed, Told, Listening}
 use Rattle.charts.specs.declared.Signal.{Signal}
 use Rattle.charts.specs.declared.Report.{Report}
-use Rattle.charts.specs.declared.Report.the-variants.{Silent, Acked, Miss, Good, Dcrc, Broad}
+use Rattle.charts.specs.declared.Report.the-variants.{Silent, Acked, Miss, Drop, Good, Dcrc, Broad}
 use Rattle.charts.specs.declared.Entry.{Entry}
 use Rattle.link.specs.declared.modes.Kept.{Kept}
 use Rattle.charts.specs.Modes as P
-use Rattle.charts.specs.Modes.{placeOf}
+use Rattle.charts.specs.Modes.{placeOf, nameAt}
 use Rattle.charts.specs.Places.{ackIn, headIn, datumIn}
 use Rattle.charts.specs.Words as W
 use Rattle.charts.specs.Signals.{classOf, headOf, datumOf, ackOf}
@@ -74,18 +74,19 @@ enters p m k s =
     (cond (eqb p P.told) Told
     (cond (eqb p P.listening) Listening m)))))))))))))))))
 
--- the report with that first word of node `me`, of the label of the packet that it is sending and of what it has kept
-abbrev pub says : ℕ → ℕ → ℕ → Kept → Report
-says w me label k =
+-- the report with that first word of node `me`, of the label of the packet that it is sending, of the place p of its mode and of what that has kept
+abbrev pub says : ℕ → ℕ → ℕ → ℕ → Kept → Report
+says w me label p k =
     cond (eqb w W.acked) (Acked me (k .ack) label)
     (cond (eqb w W.miss) (Miss me label)
+    (cond (eqb w W.drop) (Drop me (nameAt p))
     (cond (eqb w W.good) (Good me (k .head) (k .datum))
     (cond (eqb w W.dcrc) (Dcrc me (k .head))
-    (cond (eqb w W.broad) (Broad me (k .head) (k .datum)) Silent))))
+    (cond (eqb w W.broad) (Broad me (k .head) (k .datum)) Silent)))))
 
 -- what the cell x makes of node `me` in mode m by the signal s: a cell that names its own place and nothing else leaves it as it is
 abbrev pub reads : ℕ → Reception
-reads x me label m s = cond (eqb x (placeOf m)) (goes m) (record { mode = enters (placeIn x) m (remembered m) s; report = says (wordIn x) me label (remembered m); pends = pendsIn x })
+reads x me label m s = cond (eqb x (placeOf m)) (goes m) (record { mode = enters (placeIn x) m (remembered m) s; report = says (wordIn x) me label (placeOf m) (remembered m); pends = pendsIn x })
 
 -- what each node does with a signal by the table t, whatever numbers it holds
 unfoldable pub heardBy : List ℕ → Reception

@@ -49,14 +49,15 @@ fn enter(place: u8, mode: Mode, kept: Kept, s: Signal) -> Mode
     }
 }
 
-// The report with that first word of node `me`, of the label of the packet that it is sending and of what it has kept.
-fn say(word: u8, me: u8, label: u8, kept: Kept) -> Report
-    ensures { λ r. ⌜ r ≡ says word me label kept ⌝ }
+// The report with that first word of node `me`, of the label of the packet that it is sending, of the place of its mode and of what that has kept.
+fn say(word: u8, me: u8, label: u8, place: u8, kept: Kept) -> Report
+    ensures { λ r. ⌜ r ≡ says word me label place kept ⌝ }
 {
     let head = kept.head;
     match word {
         words::ACK => Report::Acked(me, kept.ack, label),
         words::MISS => Report::Miss(me, label),
+        words::DROP => Report::Drop(me, modes::name_at(place)),
         words::GOOD => Report::Good(me, head, kept.datum),
         words::DCRC => Report::Dcrc(me, head),
         words::BROAD => Report::Broad(me, head, kept.datum),
@@ -82,7 +83,7 @@ pub fn receive(table: &[u16; 336], me: u8, label: u8, mode: Mode, s: Signal) -> 
     let kept = modes::remembered(mode);
     Heard {
         mode: enter(table::place_in(cell), mode, kept, s),
-        report: say(table::word_in(cell), me, label, kept),
+        report: say(table::word_in(cell), me, label, place, kept),
         pends: table::pends_in(cell),
     }
 }

@@ -1,12 +1,13 @@
 // Modes: their places in the charts' list, what they remember, and the mode of a node that is granted the bus.
 ghost use mathlib.Core.Path.{_≡_};
-ghost use Rattle.charts.specs.Modes.{placeOf, isRest, isHolding, isAnswering, isAcking};
+ghost use Rattle.charts.specs.Modes.{placeOf, nameAt, isRest, isHolding, isAnswering, isAcking};
 ghost use Rattle.charts.specs.Places.{goodAck, goodDatum};
 ghost use Rattle.charts.specs.Actions.{granted};
 ghost use Rattle.link.specs.Reading.{remembered};
 use charts::Datum;
 use charts::Head;
 use charts::Mode;
+use charts::Reading;
 use charts::Seen;
 
 // The places of the modes in document 01's list, the good one of two first, new modes last.
@@ -97,6 +98,23 @@ pub(crate) fn place_of(mode: Mode) -> u8
         Mode::Holding => HOLDING,
         Mode::Spurious => SPURIOUS,
         Mode::Listening => LISTENING,
+    }
+}
+
+// The name of the mode at a place from Opened to TailAll, which says nothing of good or bad data.
+pub(crate) fn name_at(place: u8) -> Reading
+    ensures { λ r. ⌜ r ≡ nameAt place ⌝ }
+{
+    match place {
+        OPENED => Reading::Opened,
+        ADDRESSED => Reading::Addressed,
+        HEAD_OWN => Reading::HeadOwn,
+        HEAD_ALL => Reading::HeadAll,
+        BODY_OWN => Reading::BodyOwn,
+        BODY_ALL => Reading::BodyAll,
+        TAIL_OWN_GOOD => Reading::TailOwn,
+        TAIL_OWN_BAD => Reading::TailOwn,
+        _ => Reading::TailAll,
     }
 }
 

@@ -1,6 +1,6 @@
 // The rules of the reception chart, by the places of the modes and the classes of the signals.
 ghost use mathlib.Core.Path.{_≡_};
-ghost use Rattle.charts.specs.Words.{silent};
+ghost use Rattle.charts.specs.Words.{silent, drop};
 ghost use Rattle.charts.specs.Table.{entry};
 ghost use Rattle.link.specs.Rules.{tells};
 use crate::modes;
@@ -22,6 +22,12 @@ fn goes(place: u8) -> Entry
     ensures { λ r. ⌜ r ≡ tells place silent ⌝ }
 {
     tells(place, words::SILENT)
+}
+
+fn drops(place: u8) -> Entry
+    ensures { λ r. ⌜ r ≡ tells place drop ⌝ }
+{
+    tells(place, words::DROP)
 }
 
 // The cell of a mode's place and a signal's class. Start, End and Prefix are the line signals other than Gap, classes 0 to 2.
@@ -57,7 +63,7 @@ pub fn rule(place: u8, class: u8) -> Entry
         },
         modes::OPENED => match class {
             signals::GAP => goes(modes::REST),
-            0..=2 => goes(modes::WAIT),
+            0..=2 => drops(modes::WAIT),
             _ => goes(modes::ADDRESSED),
         },
         modes::ADDRESSED => match class {
@@ -67,46 +73,47 @@ pub fn rule(place: u8, class: u8) -> Entry
                 pends: true,
             },
             signals::DEST_ALL => goes(modes::HEAD_ALL),
+            signals::DEST_OTHER => goes(modes::WAIT),
             signals::GAP => goes(modes::REST),
-            _ => goes(modes::WAIT),
+            _ => drops(modes::WAIT),
         },
         modes::HEAD_OWN => match class {
             signals::HEADER_GOOD => goes(modes::BODY_OWN),
-            _ => goes(modes::OWED),
+            _ => drops(modes::OWED),
         },
         modes::HEAD_ALL => match class {
             signals::HEADER_GOOD => goes(modes::BODY_ALL),
             signals::GAP => goes(modes::REST),
-            _ => goes(modes::WAIT),
+            _ => drops(modes::WAIT),
         },
         modes::BODY_OWN => match class {
             signals::DATA_GOOD => goes(modes::TAIL_OWN_GOOD),
             signals::DATA_BAD => goes(modes::TAIL_OWN_BAD),
-            _ => goes(modes::OWED),
+            _ => drops(modes::OWED),
         },
         modes::BODY_ALL => match class {
             signals::DATA_GOOD => goes(modes::TAIL_ALL_GOOD),
             signals::DATA_BAD => goes(modes::TAIL_ALL_BAD),
             signals::GAP => goes(modes::REST),
-            _ => goes(modes::WAIT),
+            _ => drops(modes::WAIT),
         },
         modes::TAIL_OWN_GOOD => match class {
             1..=2 => tells(modes::TOLD, words::GOOD),
-            _ => goes(modes::OWED),
+            _ => drops(modes::OWED),
         },
         modes::TAIL_OWN_BAD => match class {
             1..=2 => tells(modes::TOLD, words::DCRC),
-            _ => goes(modes::OWED),
+            _ => drops(modes::OWED),
         },
         modes::TAIL_ALL_GOOD => match class {
             1..=2 => tells(modes::REST, words::BROAD),
             signals::GAP => goes(modes::REST),
-            _ => goes(modes::WAIT),
+            _ => drops(modes::WAIT),
         },
         modes::TAIL_ALL_BAD => match class {
-            1..=2 => goes(modes::REST),
+            1..=2 => drops(modes::REST),
             signals::GAP => goes(modes::REST),
-            _ => goes(modes::WAIT),
+            _ => drops(modes::WAIT),
         },
         modes::WAIT => match class {
             signals::GAP => goes(modes::REST),

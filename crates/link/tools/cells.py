@@ -3,7 +3,7 @@
 specs/Reading.antt has the encoding (`code`), and the check of link says whether the constant is the rules'."""
 import sys
 
-WORDS = ["-", "won", "lost", "sent", "ack", "miss", "good", "dcrc", "broad"]
+WORDS = ["-", "won", "lost", "sent", "ack", "miss", "drop", "good", "dcrc", "broad"]
 MODES = ["Rest", "AwaitAck", "AckBody", "AckEnd with a good Ack", "AckEnd with none", "Opened", "Addressed", "HeadOwn", "HeadAll", "BodyOwn", "BodyAll",
          "TailOwn with good data", "TailOwn with bad data", "TailAll with good data", "TailAll with bad data", "Wait", "Owed", "Sending", "Told", "Answering",
          "Acking", "Holding", "Spurious", "Listening"]
