@@ -3,8 +3,10 @@ use mathlib.Core.Bool.{Bool, cond}
 use mathlib.Core.List.{List, [], _∷_, _++_}
 use Prim.Native.Nat.{ℕ}
 use lib.Dec.{eqb}
+use Rattle.charts.specs.declared.Reading.{Reading}
+use Rattle.charts.specs.declared.Reading.the-variants as Rd
 use Rattle.charts.specs.declared.Report.{Report}
-use Rattle.charts.specs.declared.Report.the-variants.{Silent, Won, Lost, Sent, Acked, Miss, Good, Dcrc, Broad}
+use Rattle.charts.specs.declared.Report.the-variants.{Silent, Won, Lost, Sent, Acked, Miss, Drop, Good, Dcrc, Broad}
 use Rattle.charts.specs.declared.Entry.{Entry}
 use Rattle.charts.specs.Words as W
 use Rattle.transcript.specs.Text.{ascii, decimal}
@@ -23,11 +25,23 @@ firstWord w =
     (cond (eqb w W.sent) (ascii "sent")
     (cond (eqb w W.acked) (ascii "ack")
     (cond (eqb w W.miss) (ascii "miss")
+    (cond (eqb w W.drop) (ascii "drop")
     (cond (eqb w W.good) (ascii "good")
     (cond (eqb w W.dcrc) (ascii "dcrc")
-    (cond (eqb w W.broad) (ascii "broad") (ascii "-"))))))))
+    (cond (eqb w W.broad) (ascii "broad") (ascii "-")))))))))
 
--- "`-` or node and report". Request 3: "The reports sent, ack, miss, good, dcrc and broad end with" their label
+-- request 4: "the name of the mode it left"
+abbrev pub nameWord : Reading → List ℕ
+nameWord Rd.Opened = ascii "Opened"
+nameWord Rd.Addressed = ascii "Addressed"
+nameWord Rd.HeadOwn = ascii "HeadOwn"
+nameWord Rd.HeadAll = ascii "HeadAll"
+nameWord Rd.BodyOwn = ascii "BodyOwn"
+nameWord Rd.BodyAll = ascii "BodyAll"
+nameWord Rd.TailOwn = ascii "TailOwn"
+nameWord Rd.TailAll = ascii "TailAll"
+
+-- "`-` or node and report". Request 3: "The reports sent, ack, miss, good, dcrc and broad end with" their label; request 4: "drop and the name of the mode it left"
 abbrev pub said : Report → List (List ℕ)
 said Silent = firstWord W.silent ∷ []
 said (Won i) = decimal i ∷ firstWord W.won ∷ []
@@ -35,6 +49,7 @@ said (Lost i) = decimal i ∷ firstWord W.lost ∷ []
 said (Sent i x) = decimal i ∷ firstWord W.sent ∷ decimal x ∷ []
 said (Acked i a x) = decimal i ∷ firstWord W.acked ∷ decimal a ∷ decimal x ∷ []
 said (Miss i x) = decimal i ∷ firstWord W.miss ∷ decimal x ∷ []
+said (Drop i m) = decimal i ∷ firstWord W.drop ∷ nameWord m ∷ []
 said (Good i h d) = decimal i ∷ firstWord W.good ∷ decimal (h .header) ∷ decimal d ∷ decimal (h .label) ∷ []
 said (Dcrc i h) = decimal i ∷ firstWord W.dcrc ∷ decimal (h .header) ∷ decimal (h .label) ∷ []
 said (Broad i h d) = decimal i ∷ firstWord W.broad ∷ decimal (h .header) ∷ decimal d ∷ decimal (h .label) ∷ []

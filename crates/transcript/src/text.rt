@@ -4,9 +4,10 @@ ghost use mathlib.Core.List.{[], _∷_, _++_};
 ghost use Prim.Native.Nat.{_+_, _/_, _%_, _≤_, _<_};
 ghost use lib.ListN.{length};
 ghost use Rattle.transcript.specs.Text.{digit, decimal};
-ghost use Rattle.transcript.specs.Lines.{line, firstWord, said, flag};
+ghost use Rattle.transcript.specs.Lines.{line, firstWord, nameWord, said, flag};
 ghost use Rattle.transcript.specs.Room.{Puts};
 use charts::Head;
+use charts::Reading;
 use charts::Report;
 use charts::words;
 
@@ -127,6 +128,24 @@ fn put_label(buf: &mut [u8], at: usize, label: u8) -> usize
     put_byte(buf, b, b'\n')
 }
 
+// The name of the mode that a drop ends with, and the end of the line.
+fn put_name(buf: &mut [u8], at: usize, left: Reading) -> usize
+    requires { ⌜ at + 10 ≤ length (now buf) ⌝ }
+    ensures { λ r. ⌜ r ≤ at + 10 ⌝ }
+    ensures { λ r. ⌜ Puts (now (buf .entry)) at (line (nameWord left ∷ [])) r (now (buf .exit)) ⌝ }
+{
+    match left {
+        Reading::Opened => put_word(buf, at, b"Opened\n"),
+        Reading::Addressed => put_word(buf, at, b"Addressed\n"),
+        Reading::HeadOwn => put_word(buf, at, b"HeadOwn\n"),
+        Reading::HeadAll => put_word(buf, at, b"HeadAll\n"),
+        Reading::BodyOwn => put_word(buf, at, b"BodyOwn\n"),
+        Reading::BodyAll => put_word(buf, at, b"BodyAll\n"),
+        Reading::TailOwn => put_word(buf, at, b"TailOwn\n"),
+        Reading::TailAll => put_word(buf, at, b"TailAll\n"),
+    }
+}
+
 // A header and a datum.
 pub(crate) fn put_fields(buf: &mut [u8], at: usize, header: u32, datum: u32) -> usize
     requires { ⌜ at + 21 ≤ length (now buf) ⌝ }
@@ -172,6 +191,10 @@ pub(crate) fn put_report(buf: &mut [u8], at: usize, report: Report) -> usize
             let b = put_node(buf, at, i, b" miss");
             put_label(buf, b, label)
         }
+        Report::Drop(i, left) => {
+            let b = put_node(buf, at, i, b" drop ");
+            put_name(buf, b, left)
+        }
         Report::Good(i, h, d) => put_packet(buf, at, i, b" good ", h, d),
         Report::Dcrc(i, h) => {
             let b = put_node(buf, at, i, b" dcrc ");
@@ -194,6 +217,7 @@ pub(crate) fn put_first_word(buf: &mut [u8], at: usize, word: u8) -> usize
         words::SENT => put_word(buf, at, b" sent"),
         words::ACK => put_word(buf, at, b" ack"),
         words::MISS => put_word(buf, at, b" miss"),
+        words::DROP => put_word(buf, at, b" drop"),
         words::GOOD => put_word(buf, at, b" good"),
         words::DCRC => put_word(buf, at, b" dcrc"),
         words::BROAD => put_word(buf, at, b" broad"),

@@ -58,6 +58,12 @@ slice-aggregate-put-word-9 c = search needs
 put-word-requires-9 : tie.Need-put-word-requires-9
 put-word-requires-9 c κs = search needs
 
+slice-aggregate-put-word-10 : tie.Need-slice-aggregate-put-word-10
+slice-aggregate-put-word-10 c = search needs
+
+put-word-requires-10 : tie.Need-put-word-requires-10
+put-word-requires-10 c κs = search needs
+
 same-length : tie.Need-same-length
 same-length c = search needs
 
@@ -110,7 +116,13 @@ same-length-9 : tie.Need-same-length-9
 same-length-9 c = search needs
 
 returns-9 : tie.Need-returns-9
-returns-9 c = (omega arith, rw (ne-eqb _ _ (c .before .before .before .before .before .match .rest .0 .0 .0 .0 .0 .0 .0 .1), ne-eqb _ _ (c .before .before .before .before .before .match .rest .0 .0 .0 .0 .0 .0 .1), ne-eqb _ _ (c .before .before .before .before .before .match .rest .0 .0 .0 .0 .0 .1), ne-eqb _ _ (c .before .before .before .before .before .match .rest .0 .0 .0 .0 .1), ne-eqb _ _ (c .before .before .before .before .before .match .rest .0 .0 .0 .1), ne-eqb _ _ (c .before .before .before .before .before .match .rest .0 .0 .1), ne-eqb _ _ (c .before .before .before .before .before .match .rest .0 .1), ne-eqb _ _ (c .before .before .before .before .before .match .rest .1)) (c .before .before .put-word9 .ensures))
+returns-9 c = (omega arith, rw (c .before .before .before .before .before .match .keys9) (c .before .before .put-word9 .ensures))
+
+same-length-10 : tie.Need-same-length-10
+same-length-10 c = search needs
+
+returns-10 : tie.Need-returns-10
+returns-10 c = (omega arith, rw (ne-eqb _ _ (c .before .before .before .before .before .match .rest .0 .0 .0 .0 .0 .0 .0 .0 .1), ne-eqb _ _ (c .before .before .before .before .before .match .rest .0 .0 .0 .0 .0 .0 .0 .1), ne-eqb _ _ (c .before .before .before .before .before .match .rest .0 .0 .0 .0 .0 .0 .1), ne-eqb _ _ (c .before .before .before .before .before .match .rest .0 .0 .0 .0 .0 .1), ne-eqb _ _ (c .before .before .before .before .before .match .rest .0 .0 .0 .0 .1), ne-eqb _ _ (c .before .before .before .before .before .match .rest .0 .0 .0 .1), ne-eqb _ _ (c .before .before .before .before .before .match .rest .0 .0 .1), ne-eqb _ _ (c .before .before .before .before .before .match .rest .0 .1), ne-eqb _ _ (c .before .before .before .before .before .match .rest .1)) (c .before .before .put-word10 .ensures))
 
 pub put-first-word-spec : {M : Type 1} → statement M
 put-first-word-spec =
@@ -134,6 +146,8 @@ put-first-word-spec =
     put-word-requires-8
     slice-aggregate-put-word-9
     put-word-requires-9
+    slice-aggregate-put-word-10
+    put-word-requires-10
     same-length
     returns
     same-length-2
@@ -151,4 +165,6 @@ put-first-word-spec =
     same-length-8
     returns-8
     same-length-9
-    returns-9)
+    returns-9
+    same-length-10
+    returns-10)

@@ -74,20 +74,32 @@ put-label-requires-3 c κs = search needs
 enum-known-report-6 : tie.Need-enum-known-report-6
 enum-known-report-6 c = search needs
 
+slice-aggregate-put-node-6 : tie.Need-slice-aggregate-put-node-6
+slice-aggregate-put-node-6 c = search needs
+
+put-node-requires-6 : tie.Need-put-node-requires-6
+put-node-requires-6 c κs = search needs
+
+put-name-requires : tie.Need-put-name-requires
+put-name-requires c κs = search needs
+
+enum-known-report-7 : tie.Need-enum-known-report-7
+enum-known-report-7 c = search needs
+
 slice-aggregate-put-packet : tie.Need-slice-aggregate-put-packet
 slice-aggregate-put-packet c = search needs
 
 put-packet-requires : tie.Need-put-packet-requires
 put-packet-requires c κs = search needs
 
-enum-known-report-7 : tie.Need-enum-known-report-7
-enum-known-report-7 c = search needs
+enum-known-report-8 : tie.Need-enum-known-report-8
+enum-known-report-8 c = search needs
 
-slice-aggregate-put-node-6 : tie.Need-slice-aggregate-put-node-6
-slice-aggregate-put-node-6 c = search needs
+slice-aggregate-put-node-7 : tie.Need-slice-aggregate-put-node-7
+slice-aggregate-put-node-7 c = search needs
 
-put-node-requires-6 : tie.Need-put-node-requires-6
-put-node-requires-6 c κs = search needs
+put-node-requires-7 : tie.Need-put-node-requires-7
+put-node-requires-7 c κs = search needs
 
 put-u32-requires : tie.Need-put-u32-requires
 put-u32-requires c κs = search needs
@@ -95,8 +107,8 @@ put-u32-requires c κs = search needs
 put-label-requires-4 : tie.Need-put-label-requires-4
 put-label-requires-4 c κs = search needs
 
-enum-known-report-8 : tie.Need-enum-known-report-8
-enum-known-report-8 c = search needs
+enum-known-report-9 : tie.Need-enum-known-report-9
+enum-known-report-9 c = search needs
 
 slice-aggregate-put-packet-2 : tie.Need-slice-aggregate-put-packet-2
 slice-aggregate-put-packet-2 c = search needs
@@ -144,19 +156,25 @@ same-length-7 : tie.Need-same-length-7
 same-length-7 c = search needs
 
 returns-7 : tie.Need-returns-7
-returns-7 c = (omega arith, rw (c .before .before .before .before .before .before .report6 .given .1) (c .before .before .put-packet .ensures .1))
+returns-7 c = (omega arith, rw (c .before .before .before .before .before .before .before .before .before .before .report6 .given .1) (rw append-assoc at (and-then (c .before .before .before .before .before .before .put-node6 .ensures .1) (c .before .before .put-name .ensures .1))))
 
 same-length-8 : tie.Need-same-length-8
 same-length-8 c = search needs
 
 returns-8 : tie.Need-returns-8
-returns-8 c = (omega arith, rw (c .before .before .before .before .before .before .before .before .before .before .before .before .before .before .report7 .given .1) (rw append-assoc at (and-then (c .before .before .before .before .before .before .before .before .before .before .put-node6 .ensures .1) (and-then (c .before .before .before .before .before .before .put-u32 .ensures .1) (c .before .before .put-label4 .ensures .1)))))
+returns-8 c = (omega arith, rw (c .before .before .before .before .before .before .report7 .given .1) (c .before .before .put-packet .ensures .1))
 
 same-length-9 : tie.Need-same-length-9
 same-length-9 c = search needs
 
 returns-9 : tie.Need-returns-9
-returns-9 c = (omega arith, rw (c .before .before .before .before .before .before .report8 .given .1) (c .before .before .put-packet2 .ensures .1))
+returns-9 c = (omega arith, rw (c .before .before .before .before .before .before .before .before .before .before .before .before .before .before .report8 .given .1) (rw append-assoc at (and-then (c .before .before .before .before .before .before .before .before .before .before .put-node7 .ensures .1) (and-then (c .before .before .before .before .before .before .put-u32 .ensures .1) (c .before .before .put-label4 .ensures .1)))))
+
+same-length-10 : tie.Need-same-length-10
+same-length-10 c = search needs
+
+returns-10 : tie.Need-returns-10
+returns-10 c = (omega arith, rw (c .before .before .before .before .before .before .report9 .given .1) (c .before .before .put-packet2 .ensures .1))
 
 pub put-report-spec : {M : Type 1} → statement M
 put-report-spec =
@@ -185,14 +203,18 @@ put-report-spec =
     put-node-requires-5
     put-label-requires-3
     enum-known-report-6
-    slice-aggregate-put-packet
-    put-packet-requires
-    enum-known-report-7
     slice-aggregate-put-node-6
     put-node-requires-6
+    put-name-requires
+    enum-known-report-7
+    slice-aggregate-put-packet
+    put-packet-requires
+    enum-known-report-8
+    slice-aggregate-put-node-7
+    put-node-requires-7
     put-u32-requires
     put-label-requires-4
-    enum-known-report-8
+    enum-known-report-9
     slice-aggregate-put-packet-2
     put-packet-requires-2
     same-length
@@ -212,4 +234,6 @@ put-report-spec =
     same-length-8
     returns-8
     same-length-9
-    returns-9)
+    returns-9
+    same-length-10
+    returns-10)
