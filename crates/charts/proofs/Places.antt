@@ -20,9 +20,11 @@ use Rattle.charts.specs.Modes.{placeOf}
 use Rattle.charts.specs.Signals as S
 use Rattle.charts.specs.Signals.{classOf, isLine, closes}
 use Rattle.charts.specs.State.{every}
+use Rattle.charts.specs.Words as W
 use Rattle.charts.specs.Reception.{answer, hears}
 use Rattle.charts.specs.Places.{stepIn, ackIn, holdIn, headIn, datumIn, modes}
 use Rattle.charts.specs.Table.{entryOf, entry}
+use Rattle.charts.specs.Drops.{dropping, isDrop}
 use Rattle.charts.proofs.Tools.{implies, not-implied, pick, by-test, beq-eq, everyPair, table-at, pairs-at, mem}
 
 -- the clauses from here to `place-lt` are printed by tools/places.py
@@ -161,6 +163,10 @@ unfolding hears
 law f t me label m s =
     subst (λ y. f y (placeOf m) (classOf me s) ≡ true) (sym (key me label m (classOf me s) s))
     (pairs-at (λ p c. f (entry p c) p c) 24 14 t (placeOf m) (classOf me s) (place-lt m) (class-lt me s))
+
+-- a node reports a drop where request 4 says, and nowhere else
+pub drops : (me label : ℕ) (m : Mode) (s : Signal) → isDrop (hears me label m s .report) ≡ dropping (placeOf m) (placeOf (hears me label m s .mode)) (classOf me s)
+drops me label m s = beq-eq _ _ (law (λ y p c. Bool·beq (eqb (y .word) W.drop) (dropping p (y .place) c)) tt me label m s)
 
 -- a node in such a mode is pending; is a holder; has a packet of its own half read
 abbrev pub owing : ℕ → Bool

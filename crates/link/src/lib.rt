@@ -81,8 +81,9 @@ pub fn receive(table: &[u16; 336], me: u8, label: u8, mode: Mode, s: Signal) -> 
         };
     }
     let kept = modes::remembered(mode);
+    let next = table::place_in(cell);
     Heard {
-        mode: enter(table::place_in(cell), mode, kept, s),
+        mode: enter(next, mode, kept, s),
         report: say(table::word_in(cell), me, label, place, kept),
         pends: table::pends_in(cell),
     }

@@ -1,4 +1,4 @@
--- Document 01's marked cases A to I, a concatenated response (request 1) and labels (request 3) as rows of one table: the bytes of a file, and the text that the documents say it prints. (proofs/Cases.antt tests the table.)
+-- Document 01's marked cases A to I, a concatenated response (request 1), labels (request 3) and drops (request 4) as rows of one table: the bytes of a file, and the text that the documents say it prints. (proofs/Cases.antt tests the table.)
 use mathlib.Core.List.{List, [], _∷_, _++_}
 use Prim.Native.Nat.{ℕ}
 use lib.ListN.{replicate}
@@ -86,7 +86,7 @@ case-C = record {
 abbrev pub case-D : Row
 case-D = record {
   file = fileOf 2 (sends 1 0 5 6 lose pass ++ (grant ∷ clock 1 ∷ gap ∷ []));
-  text = ascii "nodes 2\n0 1 -\n1 2 0 won\n2 4 -\n3 5 -\n4 4 -\n5 5 -\n6 4 -\n7 5 -\n8 4 -\n9 6 -\n10 4 -\n11 5 -\n12 4 -\n13 5 -\n14 8 -\n15 4 -\n16 9 0 miss 0\ndone 17\n";
+  text = ascii "nodes 2\n0 1 -\n1 2 0 won\n2 4 -\n3 5 -\n4 4 -\n5 5 -\n6 4 -\n7 5 -\n8 4 -\n9 6 -\n10 4 -\n11 5 1 drop HeadOwn\n12 4 -\n13 5 -\n14 8 -\n15 4 -\n16 9 0 miss 0\ndone 17\n";
 }
 
 -- "B with lose at 19: 21 reports `0 miss`"
@@ -100,13 +100,13 @@ case-E = record {
 abbrev pub case-F-refused : Row
 case-F-refused = record {
   file = fileOf 3 (misled ++ (clock 1 ∷ []));
-  text = ascii "nodes 3\n0 1 -\n1 2 0 won\n2 4 -\n3 5 -\n4 5 -\n5 4 -\n6 5 -\n7 5 -\n8 4 -\n9 5 -\n10 7 -\n11 4 -\n12 5 -\n13 5 -\n14 4 -\n15 5 -\n16 5 -\n17 4 -\n18 5 1 good 5 6 0\n19 5 -\n20 8 -\n21 8 -\nrefused 22 7\n";
+  text = ascii "nodes 3\n0 1 -\n1 2 0 won\n2 4 -\n3 5 -\n4 5 -\n5 4 -\n6 5 -\n7 5 -\n8 4 -\n9 5 -\n10 7 -\n11 4 -\n12 5 -\n13 5 2 drop HeadOwn\n14 4 -\n15 5 -\n16 5 -\n17 4 -\n18 5 1 good 5 6 0\n19 5 -\n20 8 -\n21 8 -\nrefused 22 7\n";
 }
 
 abbrev pub case-F-taken : Row
 case-F-taken = record {
   file = fileOf 3 (misled ++ (clock 2 ∷ clock 1 ∷ []));
-  text = ascii "nodes 3\n0 1 -\n1 2 0 won\n2 4 -\n3 5 -\n4 5 -\n5 4 -\n6 5 -\n7 5 -\n8 4 -\n9 5 -\n10 7 -\n11 4 -\n12 5 -\n13 5 -\n14 4 -\n15 5 -\n16 5 -\n17 4 -\n18 5 1 good 5 6 0\n19 5 -\n20 8 -\n21 8 -\n22 4 -\n23 4 -\ndone 24\n";
+  text = ascii "nodes 3\n0 1 -\n1 2 0 won\n2 4 -\n3 5 -\n4 5 -\n5 4 -\n6 5 -\n7 5 -\n8 4 -\n9 5 -\n10 7 -\n11 4 -\n12 5 -\n13 5 2 drop HeadOwn\n14 4 -\n15 5 -\n16 5 -\n17 4 -\n18 5 1 good 5 6 0\n19 5 -\n20 8 -\n21 8 -\n22 4 -\n23 4 -\ndone 24\n";
 }
 
 abbrev pub case-G : Row
@@ -210,7 +210,40 @@ case-label-64 = record {
   text = ascii "nodes 2\nrefused 0 13\n";
 }
 
+-- request 4: "the report becomes drop and the name of the mode it left": B with change at 9, with lose at 11
+abbrev pub case-drop-HeadOwn : Row
+case-drop-HeadOwn = record {
+  file = fileOf 2 (sends 1 0 5 6 (change 0) pass);
+  text = ascii "nodes 2\n0 1 -\n1 2 0 won\n2 4 -\n3 5 -\n4 4 -\n5 5 -\n6 4 -\n7 5 -\n8 4 -\n9 7 1 drop HeadOwn\n10 4 -\n11 5 -\n12 4 -\n13 5 -\ndone 14\n";
+}
+
+abbrev pub case-drop-BodyOwn : Row
+case-drop-BodyOwn = record {
+  file = fileOf 2 (sends 1 0 5 6 pass lose);
+  text = ascii "nodes 2\n0 1 -\n1 2 0 won\n2 4 -\n3 5 -\n4 4 -\n5 5 -\n6 4 -\n7 5 -\n8 4 -\n9 5 -\n10 4 -\n11 6 -\n12 4 -\n13 5 1 drop BodyOwn\ndone 14\n";
+}
+
+-- A with lose at 9, with lose at 11, with change at 11: "TailAll with bad data reports drop TailAll on End or Prefix too, though it goes to Rest"
+abbrev pub case-drop-HeadAll : Row
+case-drop-HeadAll = record {
+  file = fileOf 2 (sends 63 0 1 2 lose pass ++ (gap ∷ gap ∷ []));
+  text = ascii "nodes 2\n0 1 -\n1 2 0 won\n2 4 -\n3 5 -\n4 4 -\n5 5 -\n6 4 -\n7 5 -\n8 4 -\n9 6 -\n10 4 -\n11 5 1 drop HeadAll\n12 4 0 sent 0\n13 5 -\n14 9 -\n15 9 -\ndone 16\n";
+}
+
+abbrev pub case-drop-BodyAll : Row
+case-drop-BodyAll = record {
+  file = fileOf 2 (sends 63 0 1 2 pass lose ++ (gap ∷ gap ∷ []));
+  text = ascii "nodes 2\n0 1 -\n1 2 0 won\n2 4 -\n3 5 -\n4 4 -\n5 5 -\n6 4 -\n7 5 -\n8 4 -\n9 5 -\n10 4 -\n11 6 -\n12 4 0 sent 0\n13 5 1 drop BodyAll\n14 9 -\n15 9 -\ndone 16\n";
+}
+
+abbrev pub case-drop-TailAll : Row
+case-drop-TailAll = record {
+  file = fileOf 2 (sends 63 0 1 2 pass (change 0) ++ (gap ∷ gap ∷ []));
+  text = ascii "nodes 2\n0 1 -\n1 2 0 won\n2 4 -\n3 5 -\n4 4 -\n5 5 -\n6 4 -\n7 5 -\n8 4 -\n9 5 -\n10 4 -\n11 7 -\n12 4 0 sent 0\n13 5 1 drop TailAll\n14 9 -\n15 9 -\ndone 16\n";
+}
+
 abbrev pub cases : List Row
 cases =
     case-A ∷ case-B ∷ case-C ∷ case-D ∷ case-E ∷ case-F-refused ∷ case-F-taken ∷ case-G ∷ case-H ∷ case-I-1 ∷ case-I-2 ∷ case-I-63 ∷ case-I-64 ∷ case-I-15 ∷ case-I-16
-    ∷ case-reply ∷ case-reply-held ∷ case-label-A ∷ case-label-B ∷ case-label-C ∷ case-label-E ∷ case-label-63 ∷ case-label-64 ∷ []
+    ∷ case-reply ∷ case-reply-held ∷ case-label-A ∷ case-label-B ∷ case-label-C ∷ case-label-E ∷ case-label-63 ∷ case-label-64
+    ∷ case-drop-HeadOwn ∷ case-drop-BodyOwn ∷ case-drop-HeadAll ∷ case-drop-BodyAll ∷ case-drop-TailAll ∷ []
