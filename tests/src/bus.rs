@@ -14,7 +14,7 @@ pub use marks::Marks;
 pub use node::{Effect, Mode, Node};
 pub use packet::{is_address, is_label, Head, Packet, ALL_NODES};
 pub use refusal::Refusal;
-pub use report::{Report, Reported};
+pub use report::{Reading, Report, Reported};
 pub use signal::{Check, Signal};
 
 /// "Nodes are 0 to n−1, n from 2 to 63."

@@ -1,5 +1,5 @@
 //! The model written apart: an independent reference model of the IEEE 1394 rehearsal bench,
-//! written from document 01, requests 1 to 3 of document 02 and the readings of them, and from
+//! written from document 01, requests 1 to 4 of document 02 and the readings of them, and from
 //! nothing else.
 //!
 //! The model itself:

@@ -8,8 +8,23 @@ use crate::bus::{Check, Effect, Head, Mode, Node, Signal, ALL_NODES};
 /// So is the head that modes remember and Headers carry.
 const ZERO: Head = Head { header: 0, label: 0 };
 
-/// "There are 14 signal classes".
-pub const CLASSES: usize = 14;
+/// The classes of signals by name: "There are 14 signal classes".
+pub const CLASSES: [&str; 14] = [
+    "Start",
+    "End",
+    "Prefix",
+    "Gap",
+    "Dhead",
+    "Dest own",
+    "Dest 63",
+    "Dest other",
+    "Header good",
+    "Header bad",
+    "Data good",
+    "Data bad",
+    "Ack good",
+    "Ack bad",
+];
 
 /// The modes by place, with their names: "in document 01's order (the good one of two first, new
 /// modes last)". "AckEnd counts as two modes (good Ack or not), TailOwn and TailAll as two each
@@ -58,7 +73,7 @@ pub fn place(mode: Mode) -> usize {
 
 /// The signals by class, as node `own` gets them: "Start, End, Prefix, Gap, Dhead, Dest own, Dest
 /// 63, Dest other, and Header, Data, Ack each good and bad".
-pub fn signals(own: u8) -> [Signal; CLASSES] {
+pub fn signals(own: u8) -> [Signal; CLASSES.len()] {
     [
         Signal::Start,
         Signal::End,

@@ -30,6 +30,11 @@ pub fn action(out: &mut Vec<u8>, index: u64, kind: u8, reported: Option<Reported
             after_space(out, head.header.into());
             after_space(out, data.into());
         }
+        // "`drop` and the name of the mode it left"
+        Report::Drop { left } => {
+            out.push(b' ');
+            out.extend_from_slice(left.name().as_bytes());
+        }
     }
     // "end with it, so case A's line 12 reads `12 4 0 sent 0`"
     if let Some(label) = report.label() {

@@ -2,7 +2,9 @@
 
 mod common;
 
-use bench_model::bus::{Bus, Check, Head, Mode, Node, Phase, Record, Report, Reported, Signal};
+use bench_model::bus::{
+    Bus, Check, Head, Mode, Node, Phase, Reading, Record, Report, Reported, Signal,
+};
 use common::*;
 
 fn said(node: u8, report: Report) -> Option<Reported> {
@@ -11,6 +13,10 @@ fn said(node: u8, report: Report) -> Option<Reported> {
 
 fn miss(node: u8, label: u8) -> Option<Reported> {
     said(node, Report::Miss { label })
+}
+
+fn dropped(node: u8, left: Reading) -> Option<Reported> {
+    said(node, Report::Drop { left })
 }
 
 /// Node 1's reply (3, 4), label 9.
@@ -151,11 +157,14 @@ fn a_reply_to_all_nodes_is_heard() {
 /// A reply whose Header, Data or Ack does not come through.
 #[test]
 fn a_damaged_reply_is_missed() {
-    for damage in [lose(), change(0)] {
-        // The Header, at 30: node 0 owes an answer, and gives the bus back.
+    for (damage, dropped) in
+        [(lose(), "\n32 5 0 drop HeadOwn\n"), (change(0), "\n30 7 0 drop HeadOwn\n")]
+    {
+        // The Header, at 30: node 0 drops the reply, owes an answer, and gives the bus back.
         let mut run = replied();
         run[30] = damage;
         run.truncate(35);
+        assert!(printed(2, &run).contains(dropped));
         let mut bus = after(2, &run);
         assert_eq!(bus.nodes[0].mode, Mode::Owed);
         let reports = play(&mut bus, &[grant(), clock(0), gap(), gap()]);
@@ -173,6 +182,7 @@ fn a_damaged_reply_is_missed() {
     run[32] = lose();
     run.truncate(35);
     assert_eq!(after(2, &run).nodes[0].mode, Mode::Owed);
+    assert!(printed(2, &run).ends_with("\n34 5 0 drop BodyOwn\ndone 35\n"));
 }
 
 /// A requester that got no good Ack waits for the gap, and sleeps through the reply.
@@ -344,7 +354,9 @@ fn the_end_of_a_spurious_node_reaches_nobody() {
     assert_eq!(bus.nodes[2].mode, Mode::Rest);
     play(&mut bus, &[respond(1, 4, 0), clock(1), pass(), pass(), clock(1), pass(), pass()]);
     let reports = play(&mut bus, &[clock(1), pass(), pass()]);
-    assert_eq!(reports, [None, said(0, Report::Ack { ack: 4, label: 0 }), None]);
+    // Node 2 rested when the acknowledgement began, and took it for a packet.
+    let ack = said(0, Report::Ack { ack: 4, label: 0 });
+    assert_eq!(reports, [None, ack, dropped(2, Reading::Addressed)]);
     assert_eq!(bus.phase, Phase::Gapping { node: 0 });
 }
 
@@ -382,12 +394,14 @@ fn the_start_of_an_acknowledgement_clears_the_marks() {
 fn a_dropped_packet_owes_a_grant() {
     let mut run = case_b();
     run[9] = change(0);
+    assert_eq!(after(2, &run[..9]).step(&run[9]), Ok(dropped(1, Reading::HeadOwn)));
     let bus = after(2, &run[..14]);
     assert_eq!(bus.nodes[1].mode, Mode::Owed);
     assert_eq!(bus.phase, Phase::Granting);
     // Changed to 63 by the way: HeadAll, a bad Header, Wait, and no grant.
     let mut run = case_b();
     run[7] = change(63);
+    assert_eq!(after(2, &run[..9]).step(&run[9]), Ok(dropped(1, Reading::HeadAll)));
     let bus = after(2, &run[..14]);
     assert_eq!(bus.nodes[1].mode, Mode::Wait);
     assert_eq!(bus.phase, Phase::Gapping { node: 0 });

@@ -14,7 +14,7 @@ fn expected(receiver: &Receiver, before: &str, signal: Signal, answer: Answer) -
         false => receiver.entering_by(signal).mode(next),
     };
     let effect = match report {
-        Some(word) => Effect::Report(receiver.report(word)),
+        Some(word) => Effect::Report(receiver.report(before, word)),
         None if pending => Effect::Pending,
         None => Effect::Nothing,
     };

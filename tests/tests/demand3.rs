@@ -213,6 +213,63 @@ fn a_confirmation_with_another_label_is_seen() {
     }
 }
 
+/// Case B with label 7, the Header lost to node 1, up to where it has dropped the packet.
+fn after_drop() -> Watch {
+    let mut run = case_b_labelled();
+    run[9] = lose();
+    watched(2, &run[..12]).unwrap()
+}
+
+/// What the addressed node has dropped since the request started is not acknowledged.
+#[test]
+fn an_acknowledgement_of_what_was_dropped_is_seen() {
+    let head = Head { header: 5, label: 7 };
+    let mut watch = after_drop();
+    watch.bus.nodes[1].mode = Mode::TailOwn { head, data: Some(6) };
+    for record in &case_b_labelled()[12..21] {
+        watch.step(record).unwrap().unwrap();
+    }
+    assert!(watch.step(&pass()).unwrap_err().contains("dropped in HeadOwn"));
+    // The same of a reply.
+    let mut run = replied();
+    run[32] = lose();
+    let mut watch = watched(2, &run[..35]).unwrap();
+    watch.bus.nodes[0].mode = Mode::TailOwn { head: Head { header: 3, label: 9 }, data: Some(4) };
+    watch.bus.phase = Phase::Delivering { sender: 1, signal: Signal::End, receiver: 0 };
+    for record in &replied()[34..42] {
+        watch.step(record).unwrap().unwrap();
+    }
+    assert!(watch.step(&pass()).unwrap_err().contains("dropped in BodyOwn"));
+}
+
+/// A drop of the request before, or of another node, and the confirmation miss are as they should be.
+#[test]
+fn other_drops_pass() {
+    let mut run = case_b_labelled();
+    run[9] = lose();
+    run.truncate(14);
+    run.extend([grant(), clock(1), gap(), gap(), reset()]);
+    run.extend(case_b_labelled());
+    assert_eq!(watched(2, &run).unwrap().bus.phase, Phase::Idle);
+    let expected = [
+        "1 2 0 won",
+        "11 5 1 drop HeadOwn",
+        "16 9 0 miss 7",
+        "20 2 0 won",
+        "32 5 1 good 5 6 7",
+        "40 5 0 ack 1 7",
+    ];
+    assert_eq!(reports(&printed(2, &run)), expected);
+    // Case F: node 2 drops twice before node 0's `ack`, of which it is told nothing.
+    let mut run = vec![labelled(0, 1, 5, 6, 7), arbitrate(0)];
+    run.extend([clock(0), pass(), pass()].repeat(6));
+    run[10] = change(2);
+    run.extend([grant(), grant(), clock(2), respond(1, 3, 0)]);
+    run.extend([clock(1), pass(), pass()].repeat(3));
+    run.extend([gap(), gap(), gap()]);
+    assert_eq!(watched(3, &run).unwrap().bus.phase, Phase::Idle);
+}
+
 /// A request from Holding starts at once; one in the buffer meanwhile starts with `won`.
 #[test]
 fn starts_at_once_or_with_won() {
@@ -242,9 +299,10 @@ fn starts_at_once_or_with_won() {
 fn the_longest_way_is_21n_plus_1() {
     let text = walk::walk(2).unwrap();
     assert!(text.ends_with("longest way of forward actions to Idle 43\n"), "{text}");
+    assert!(text.contains("54 of 336 cells met, 11 of them drops"), "{text}");
     let text = walk::walk(3).unwrap();
     assert!(text.ends_with("longest way of forward actions to Idle 64\n"), "{text}");
-    assert!(text.contains("63 of 336 cells"), "{text}");
+    assert!(text.contains("63 of 336 cells met, 15 of them drops"), "{text}");
 }
 
 /// From the win of a request to another node, the longest continuation is as long as that.

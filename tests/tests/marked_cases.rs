@@ -1,5 +1,5 @@
 //! Marked cases A to I; the texts are document 01's, or written by hand from its sentences, with the
-//! labels of request 3.
+//! labels of request 3 and the drops of request 4.
 
 mod common;
 
@@ -97,14 +97,15 @@ fn c_bad_data() {
     assert_eq!(printed(2, &run), text);
 }
 
-/// "B with lose at 9, nothing reported at 13; grant, clock 1, gap: index 16 reports `0 miss`"
+/// "B with lose at 9, nothing reported at 13; grant, clock 1, gap: index 16 reports `0 miss`"; at 11
+/// node 1 gets the Data and drops.
 #[test]
 fn d_lost_header() {
     let mut run = case_b();
     run[9] = lose();
     run.truncate(14);
     run.extend([grant(), clock(1), gap()]);
-    let text = with_lines(&text_b(), &["9 6 -", "13 5 -"]);
+    let text = with_lines(&text_b(), &["9 6 -", "11 5 1 drop HeadOwn", "13 5 -"]);
     let text = with_end(&text, "14 8 -\n15 4 -\n16 9 0 miss 0\ndone 17\n");
     assert_eq!(printed(2, &run), text);
 }
@@ -139,7 +140,7 @@ nodes 3
 10 7 -
 11 4 -
 12 5 -
-13 5 -
+13 5 2 drop HeadOwn
 14 4 -
 15 5 -
 16 5 -
@@ -241,7 +242,7 @@ fn d_with_a_label() {
     run[9] = lose();
     run.truncate(14);
     run.extend([grant(), clock(1), gap()]);
-    let text = with_lines(&text_b_labelled(), &["9 6 -", "13 5 -"]);
+    let text = with_lines(&text_b_labelled(), &["9 6 -", "11 5 1 drop HeadOwn", "13 5 -"]);
     let text = with_end(&text, "14 8 -\n15 4 -\n16 9 0 miss 7\ndone 17\n");
     assert_eq!(printed(2, &run), text);
 }
@@ -261,8 +262,55 @@ fn f_with_a_label() {
     run[10] = change(2);
     run.extend([grant(), grant(), clock(2), respond(1, 3, 0)]);
     run.extend([clock(1), pass(), pass()].repeat(3));
-    let expected = ["1 2 0 won", "18 5 1 good 5 6 63", "31 5 0 ack 3 63"];
+    // Node 2 is at rest again, and takes the acknowledgement for a packet.
+    let expected = [
+        "1 2 0 won",
+        "13 5 2 drop HeadOwn",
+        "18 5 1 good 5 6 63",
+        "31 5 0 ack 3 63",
+        "32 5 2 drop Addressed",
+    ];
     assert_eq!(reports(&printed(3, &run)), expected);
+}
+
+/// The text up to index 13.
+fn up_to_13(text: &str) -> String {
+    let lines: Vec<&str> = text.lines().take(15).collect();
+    lines.join("\n") + "\ndone 14\n"
+}
+
+/// B up to 13: the Data lost; the Header with a bad check, after which nothing is told at the End.
+/// No label ends a drop.
+#[test]
+fn drops_of_b() {
+    for run in [case_b(), case_b_labelled()] {
+        let mut lost = run[..14].to_vec();
+        lost[11] = lose();
+        let text = with_lines(&up_to_13(&text_b()), &["11 6 -", "13 5 1 drop BodyOwn"]);
+        assert_eq!(printed(2, &lost), text);
+        let mut bad = run[..14].to_vec();
+        bad[9] = change(0);
+        let text = with_lines(&up_to_13(&text_b()), &["9 7 1 drop HeadOwn", "13 5 -"]);
+        assert_eq!(printed(2, &bad), text);
+    }
+}
+
+/// A: the Header lost; the Data lost; the Data with a bad check.
+#[test]
+fn drops_of_a() {
+    let mut run = vec![request(0, 63, 1, 2), arbitrate(0)];
+    run.extend(packet_of_two());
+    run.extend([gap(), gap()]);
+    let cases: [(usize, Record, &[&str]); 3] = [
+        (9, lose(), &["9 6 -", "11 5 1 drop HeadAll", "13 5 -"]),
+        (11, lose(), &["11 6 -", "13 5 1 drop BodyAll"]),
+        (11, change(0), &["11 7 -", "13 5 1 drop TailAll"]),
+    ];
+    for (place, fault, lines) in cases {
+        let mut run = run.clone();
+        run[place] = fault;
+        assert_eq!(printed(2, &run), with_lines(TEXT_A, lines));
+    }
 }
 
 /// As case I, for labels: "63 taken, 64 refused".

@@ -233,7 +233,7 @@ fn change_of_each_signal() {
         assert_eq!(refused(&bus(clocks), change(1)), 7);
         assert_eq!(refused(&bus(clocks), change(63)), 7);
         assert_eq!(refused(&bus(clocks), change(10)), 5);
-        assert_eq!(bus(clocks).step(&change(0)), Ok(None));
+        assert!(bus(clocks).step(&change(0)).is_ok());
     }
 }
 

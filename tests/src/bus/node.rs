@@ -1,7 +1,7 @@
 //! "What a node does with a signal".
 
 use super::packet::{Head, Packet, ALL_NODES};
-use super::report::Report;
+use super::report::{Reading, Report};
 use super::signal::{Check, Signal};
 
 /// "A node's record holds its mode with what that mode remembers, its buffer (one packet or empty)
@@ -102,6 +102,9 @@ impl Node {
         let quiet = |mode| (mode, Effect::Nothing);
         let report = |mode, report| (mode, Effect::Report(report));
         let miss = |mode| report(mode, Report::Miss { label });
+        // "When a node in Opened through the Tail modes goes to Wait or Owed, the report becomes
+        // `drop` and the name of the mode it left. A Gap to Rest is no drop".
+        let drop = |mode, left| report(mode, Report::Drop { left });
         match self.mode {
             // "Rest: Start → Opened; else stay."
             Rest => match signal {
@@ -135,54 +138,58 @@ impl Node {
             // "Opened: Gap → Rest; another line signal → Wait; else → Addressed."
             Opened => match signal {
                 Gap => quiet(Rest),
-                Start | End | Prefix => quiet(Wait),
+                Start | End | Prefix => drop(Wait, Reading::Opened),
                 _ => quiet(Addressed),
             },
             // "Addressed: Dest of itself → HeadOwn, and the node is entered as pending on the bus;
-            // Dest 63 → HeadAll; Gap → Rest; else Wait."
+            // Dest 63 → HeadAll; Gap → Rest; else Wait." "[…] nor is a Dest of another node met in
+            // Addressed" a drop.
             Addressed => match signal {
                 Dest(address) if address == own => (HeadOwn, Effect::Pending),
                 Dest(ALL_NODES) => quiet(HeadAll),
+                Dest(_) => quiet(Wait),
                 Gap => quiet(Rest),
-                _ => quiet(Wait),
+                _ => drop(Wait, Reading::Addressed),
             },
             // "HeadOwn / HeadAll: good Header → BodyOwn / BodyAll; else Owed / Wait.
             // HeadAll on Gap → Rest."
             HeadOwn => match signal {
                 Header(head, Check::Good) => quiet(BodyOwn { head }),
-                _ => quiet(Owed),
+                _ => drop(Owed, Reading::HeadOwn),
             },
             HeadAll => match signal {
                 Header(head, Check::Good) => quiet(BodyAll { head }),
                 Gap => quiet(Rest),
-                _ => quiet(Wait),
+                _ => drop(Wait, Reading::HeadAll),
             },
             // "BodyOwn / BodyAll: Data, good or bad → TailOwn / TailAll; else Owed / Wait.
             // BodyAll on Gap → Rest."
             BodyOwn { head } => match signal {
                 Data(data, Check::Good) => quiet(TailOwn { head, data: Some(data) }),
                 Data(_, Check::Bad) => quiet(TailOwn { head, data: None }),
-                _ => quiet(Owed),
+                _ => drop(Owed, Reading::BodyOwn),
             },
             BodyAll { head } => match signal {
                 Data(data, Check::Good) => quiet(TailAll { head, data: Some(data) }),
                 Data(_, Check::Bad) => quiet(TailAll { head, data: None }),
                 Gap => quiet(Rest),
-                _ => quiet(Wait),
+                _ => drop(Wait, Reading::BodyAll),
             },
             // "TailOwn: End or Prefix: report good h d, or dcrc h for bad data, and go to Told;
             // else Owed."
             TailOwn { head, data } => match (signal, data) {
                 (End | Prefix, Some(data)) => report(Told, Report::Good { head, data }),
                 (End | Prefix, None) => report(Told, Report::Dcrc { head }),
-                _ => quiet(Owed),
+                _ => drop(Owed, Reading::TailOwn),
             },
-            // "TailAll: End or Prefix: report broad h d if the data were good, else nothing, and go
-            // to Rest; Gap → Rest; else Wait."
+            // "TailAll: End or Prefix: report broad h d if the data were good […] and go to Rest;
+            // Gap → Rest; else Wait." "TailAll with bad data reports drop TailAll on End or Prefix
+            // too, though it goes to Rest."
             TailAll { head, data } => match (signal, data) {
                 (End | Prefix, Some(data)) => report(Rest, Report::Broad { head, data }),
-                (End | Prefix | Gap, _) => quiet(Rest),
-                _ => quiet(Wait),
+                (End | Prefix, None) => drop(Rest, Reading::TailAll),
+                (Gap, _) => quiet(Rest),
+                _ => drop(Wait, Reading::TailAll),
             },
             // "Wait: Gap → Rest; else stay. Owed stays."
             Wait => match signal {

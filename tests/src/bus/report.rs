@@ -12,6 +12,37 @@ pub enum Report {
     Good { head: Head, data: u32 },
     Dcrc { head: Head },
     Broad { head: Head, data: u32 },
+    Drop { left: Reading },
+}
+
+/// The modes in which a node reads a packet, "Opened through the Tail modes", by name: "no word on
+/// good or bad data".
+#[derive(Clone, Copy, PartialEq, Eq, Hash, Debug)]
+pub enum Reading {
+    Opened,
+    Addressed,
+    HeadOwn,
+    HeadAll,
+    BodyOwn,
+    BodyAll,
+    TailOwn,
+    TailAll,
+}
+
+impl Reading {
+    /// As the printed text has it.
+    pub fn name(self) -> &'static str {
+        match self {
+            Reading::Opened => "Opened",
+            Reading::Addressed => "Addressed",
+            Reading::HeadOwn => "HeadOwn",
+            Reading::HeadAll => "HeadAll",
+            Reading::BodyOwn => "BodyOwn",
+            Reading::BodyAll => "BodyAll",
+            Reading::TailOwn => "TailOwn",
+            Reading::TailAll => "TailAll",
+        }
+    }
 }
 
 impl Report {
@@ -26,13 +57,14 @@ impl Report {
             Report::Good { .. } => "good",
             Report::Dcrc { .. } => "dcrc",
             Report::Broad { .. } => "broad",
+            Report::Drop { .. } => "drop",
         }
     }
 
     /// "The reports sent, ack, miss, good, dcrc and broad end with it".
     pub fn label(self) -> Option<u8> {
         match self {
-            Report::Won | Report::Lost => None,
+            Report::Won | Report::Lost | Report::Drop { .. } => None,
             Report::Sent { label } | Report::Ack { label, .. } | Report::Miss { label } => {
                 Some(label)
             }
@@ -42,7 +74,8 @@ impl Report {
         }
     }
 
-    /// "A *confirmation* is a report sent, ack or miss."
+    /// "A *confirmation* is a report sent, ack or miss." "A drop […] is no confirmation and no
+    /// telling".
     pub fn is_confirmation(self) -> bool {
         matches!(self, Report::Sent { .. } | Report::Ack { .. } | Report::Miss { .. })
     }

@@ -6,19 +6,21 @@ use std::fmt::Write;
 use super::forward::listener;
 use super::ways::Way;
 use super::workers::Merge;
-use crate::bus::{Action, Bus, Check, Mode, Phase, Record, Report, Reported, Signal};
-use crate::table::{class, place, CLASSES, MODES};
+use crate::bus::{
+    Action, Bus, Check, Mode, Phase, Reading, Record, Report, Reported, Signal, ALL_NODES,
+};
+use crate::table::{class, place, signals, Cell, CLASSES, MODES};
 
 /// Refusals that a file can meet: all but 12.
 const REFUSALS: [u8; 12] = [1, 2, 3, 4, 5, 6, 7, 8, 9, 10, 11, 13];
 
-/// The first two have no label.
-const REPORTS: [&str; 8] = ["won", "lost", "sent", "ack", "miss", "good", "dcrc", "broad"];
+/// The first three have no label.
+const REPORTS: [&str; 9] = ["won", "lost", "drop", "sent", "ack", "miss", "good", "dcrc", "broad"];
 
 /// Each other report with the ends of a label's range, and with something between.
 fn labelled() -> impl Iterator<Item = String> {
     let ends = |word| ["0", "1 to 62", "63"].map(|labels| format!("{word}, label {labels}"));
-    REPORTS[2..].iter().flat_map(ends)
+    REPORTS[3..].iter().flat_map(ends)
 }
 
 /// Which of these it is.
@@ -31,7 +33,52 @@ fn label_of(report: Report) -> Option<String> {
     Some(format!("{}, label {labels}", report.word()))
 }
 
-const EVENTS: [&str; 42] = [
+/// The cells by which nodes drop packets in runs from a fresh bus: 15 of the chart's 109, and seven
+/// of the eight names. A packet's signals come in their order, up to its End, and an
+/// acknowledgement's up to its End or Prefix; of these only Header, Data and Ack can fail to come. So
+/// - Opened and Addressed are left for Wait by the End or Prefix of an acknowledgement alone, which a
+///   node at rest took for a packet, its Ack lost or not;
+/// - HeadOwn and HeadAll by a bad Header, by the Data if the Header was lost, and by the End if the
+///   Data were lost too; BodyOwn and BodyAll by the End, if the Data were lost;
+/// - in TailOwn and TailAll a node gets the End, and nothing else: TailOwn tells, and TailAll drops
+///   if the data were bad.
+///
+/// No Gap comes while a node reads: the End that comes before it ends all reading.
+pub const DROPS: [&str; 15] = [
+    "Opened on End",
+    "Opened on Prefix",
+    "Addressed on End",
+    "Addressed on Prefix",
+    "HeadOwn on End",
+    "HeadOwn on Header bad",
+    "HeadOwn on Data good",
+    "HeadOwn on Data bad",
+    "HeadAll on End",
+    "HeadAll on Header bad",
+    "HeadAll on Data good",
+    "HeadAll on Data bad",
+    "BodyOwn on End",
+    "BodyAll on End",
+    "TailAll bad on End",
+];
+
+/// The modes by whose names they are reported: all but TailOwn.
+const DROPPED: [Reading; 7] = [
+    Reading::Opened,
+    Reading::Addressed,
+    Reading::HeadOwn,
+    Reading::HeadAll,
+    Reading::BodyOwn,
+    Reading::BodyAll,
+    Reading::TailAll,
+];
+
+/// A cell by its mode's place and its class.
+fn cell_name(place: usize, class: usize) -> String {
+    format!("{} on {}", MODES[place].0, CLASSES[class])
+}
+
+const EVENTS: [&str; 49] = [
     "Dest changed",
     "Header lost",
     "Header changed",
@@ -74,29 +121,43 @@ const EVENTS: [&str; 42] = [
     "reply acknowledged, another label waits",
     "reply missed, another label waits",
     "told of another label than the node's own",
+    "dropped by the addressed node",
+    "dropped by a misled node",
+    "dropped by one of all nodes",
+    "reply dropped by the addressed node",
+    "reply dropped by a misled node",
+    "reply dropped by one of all nodes",
+    "acknowledgement dropped by a third node",
 ];
 
 /// The cells of the reception chart (mode and signal, 336 of them) that were met.
 #[derive(Clone)]
-pub struct Cells([[bool; CLASSES]; MODES.len()]);
+pub struct Cells([[bool; CLASSES.len()]; MODES.len()]);
 
 impl Default for Cells {
     fn default() -> Cells {
-        Cells([[false; CLASSES]; MODES.len()])
+        Cells([[false; CLASSES.len()]; MODES.len()])
     }
 }
 
 impl Cells {
-    /// Enters the cell of an action that is open on this bus, if a signal is received.
-    pub fn enter(&mut self, bus: &Bus, action: Action) {
+    /// The cell of an action that is open on this bus, if a signal is received: place and class.
+    fn met(bus: &Bus, action: Action) -> Option<(usize, usize)> {
         let (node, signal) = match (action, bus.phase) {
             (Action::Gap, Phase::Gapping { node }) => (node, Signal::Gap),
             _ => match bus.arrival(action) {
                 Ok((node, Some(signal))) => (node, signal),
-                _ => return,
+                _ => return None,
             },
         };
-        self.0[place(bus.node(node).mode)][class(node, signal)] = true;
+        Some((place(bus.node(node).mode), class(node, signal)))
+    }
+
+    /// Enters that cell.
+    pub fn enter(&mut self, bus: &Bus, action: Action) {
+        if let Some((place, class)) = Cells::met(bus, action) {
+            self.0[place][class] = true;
+        }
     }
 
     pub fn merge(&mut self, other: &Cells) {
@@ -109,6 +170,21 @@ impl Cells {
 
     pub fn count(&self) -> usize {
         self.0.iter().flatten().filter(|&&met| met).count()
+    }
+
+    /// Those that report a drop, by name.
+    pub fn drops(&self) -> Vec<String> {
+        const OWN: u8 = 0;
+        let mut names = Vec::new();
+        for (place, row) in self.0.iter().enumerate() {
+            for (class, signal) in signals(OWN).into_iter().enumerate() {
+                let cell = Cell::of(MODES[place].1, OWN, signal);
+                if row[class] && cell.report == Some("drop") {
+                    names.push(cell_name(place, class));
+                }
+            }
+        }
+        names
     }
 }
 
@@ -130,7 +206,8 @@ impl Counts {
     /// One more of this name.
     fn enter(&mut self, name: &str) {
         let place = self.names.iter().position(|known| known == name);
-        self.hits[place.expect("every name has its place")] += 1;
+        let place = place.unwrap_or_else(|| panic!("{}: {name} is not among them", self.title));
+        self.hits[place] += 1;
     }
 
     fn missing(&self) -> impl Iterator<Item = String> + '_ {
@@ -158,6 +235,8 @@ pub struct Tally {
     refusals: Counts,
     reports: Counts,
     labels: Counts,
+    dropped: Counts,
+    drops: Counts,
     kinds: Counts,
     modes: Counts,
     events: Counts,
@@ -176,6 +255,8 @@ impl Tally {
             refusals: Counts::new("refusals", REFUSALS),
             reports: Counts::new("reports", REPORTS),
             labels: Counts::new("labels reported", labelled()),
+            dropped: Counts::new("drops by name", DROPPED.map(Reading::name)),
+            drops: Counts::new("drops by cell", DROPS),
             kinds: Counts::new("kinds accepted", 1..=10),
             modes: Counts::new("node modes entered", MODES.map(|(name, _)| name)),
             events: Counts::new("events", EVENTS),
@@ -213,6 +294,9 @@ impl Tally {
             if let Some(name) = label_of(report) {
                 self.labels.enter(&name);
             }
+            if let Report::Drop { left } = report {
+                self.dropped.enter(left.name());
+            }
         }
         for node in 0..after.n {
             let (left, entered) = (before.node(node).mode, after.node(node).mode);
@@ -222,10 +306,15 @@ impl Tally {
         }
         if let Ok(action) = record.look(before.n) {
             self.cells.enter(before, action);
+            if let Some(Reported { report: Report::Drop { .. }, .. }) = reported {
+                let (place, class) = Cells::met(before, action).expect("a drop has its cell");
+                self.drops.enter(&cell_name(place, class));
+            }
             let event = event(before, action, reported);
             let of_reply = event_of_reply(before, action, reported);
             let of_labels = event_of_labels(before, action, reported);
-            for event in [event, of_reply, of_labels].into_iter().flatten() {
+            let of_drops = event_of_drops(before, reported);
+            for event in [event, of_reply, of_labels, of_drops].into_iter().flatten() {
                 self.events.enter(event);
             }
             if after.holder.nodes(after.n).nth(1).is_some() {
@@ -234,11 +323,13 @@ impl Tally {
         }
     }
 
-    fn counts(&self) -> [&Counts; 7] {
+    fn counts(&self) -> [&Counts; 9] {
         [
             &self.refusals,
             &self.reports,
             &self.labels,
+            &self.dropped,
+            &self.drops,
             &self.kinds,
             &self.modes,
             &self.events,
@@ -246,11 +337,13 @@ impl Tally {
         ]
     }
 
-    fn counts_mut(&mut self) -> [&mut Counts; 7] {
+    fn counts_mut(&mut self) -> [&mut Counts; 9] {
         [
             &mut self.refusals,
             &mut self.reports,
             &mut self.labels,
+            &mut self.dropped,
+            &mut self.drops,
             &mut self.kinds,
             &mut self.modes,
             &mut self.events,
@@ -265,7 +358,7 @@ impl Tally {
 
     pub fn print(&self) -> String {
         let mut text = String::new();
-        for counts in &self.counts()[..6] {
+        for counts in &self.counts()[..8] {
             counts.print(&mut text);
         }
         self.print_ways(&mut text);
@@ -385,7 +478,8 @@ fn event_of_reply(bus: &Bus, action: Action, reported: Option<Reported>) -> Opti
             Report::Dcrc { .. } => "reply told dcrc",
             Report::Broad { .. } => "reply told broad",
             Report::Ack { .. } => "reply acknowledged",
-            _ => "reply missed on End",
+            Report::Miss { .. } => "reply missed on End",
+            _ => return None,
         },
         _ if receiver == Mode::Wait => return None,
         (Action::Pass, Some(Signal::Prefix)) if receiver == Mode::Listening => {
@@ -422,6 +516,27 @@ fn event_of_labels(bus: &Bus, action: Action, reported: Option<Reported>) -> Opt
         Report::Ack { .. } => Some("reply acknowledged, another label waits"),
         _ => Some("reply missed, another label waits"),
     }
+}
+
+/// What it calls a drop, by the node that drops. A node is misled until the next Start; where the
+/// bus's mark is set, a packet is the reply.
+fn event_of_drops(bus: &Bus, reported: Option<Reported>) -> Option<&'static str> {
+    let Reported { node, report: Report::Drop { left } } = reported? else {
+        return None;
+    };
+    let Phase::Delivering { sender, .. } = bus.phase else {
+        return None;
+    };
+    let event = match (left, bus.node(sender).sending.address) {
+        (Reading::Opened | Reading::Addressed, _) => "acknowledgement dropped by a third node",
+        _ if bus.misled.has(node) && bus.concatenated => "reply dropped by a misled node",
+        _ if bus.misled.has(node) => "dropped by a misled node",
+        (_, ALL_NODES) if bus.concatenated => "reply dropped by one of all nodes",
+        (_, ALL_NODES) => "dropped by one of all nodes",
+        _ if bus.concatenated => "reply dropped by the addressed node",
+        _ => "dropped by the addressed node",
+    };
+    Some(event)
 }
 
 /// The number in a last line `refused COUNT NUMBER`.

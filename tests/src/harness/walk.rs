@@ -4,7 +4,7 @@
 
 use std::collections::HashMap;
 
-use super::tally::Cells;
+use super::tally::{Cells, DROPS};
 use crate::bus::{
     Action, Bus, Head, Marks, Mode, Node, Packet, Phase, Report, Reported, ALL_NODES,
 };
@@ -14,18 +14,34 @@ use crate::bus::{
 const REQUEST: Packet = Packet { address: 0, head: Head { header: 1, label: 7 }, data: 2 };
 const WAITING: Packet = Packet { address: 0, head: Head { header: 5, label: 8 }, data: 6 };
 
-/// A request from Holding: its node and its label.
+/// A request that has started: its node, address and label, and whether the addressed node has
+/// dropped a packet since.
 #[derive(Clone, Copy, PartialEq, Eq, Hash, Debug)]
-struct Reply {
+struct Started {
     node: u8,
+    address: u8,
     label: u8,
+    dropped: bool,
 }
 
-/// A state that was reached, and the reply that was started on the way from the win to it.
+impl Started {
+    fn new(node: u8, packet: Packet) -> Started {
+        Started { node, address: packet.address, label: packet.head.label, dropped: false }
+    }
+
+    /// This node drops.
+    fn enter_drop(&mut self, node: u8) {
+        self.dropped |= node == self.address;
+    }
+}
+
+/// A state that was reached, node 0's request, and the reply that was started on the way from the
+/// win to it.
 #[derive(Clone, Debug)]
 struct Reached {
     bus: Bus,
-    reply: Option<Reply>,
+    request: Started,
+    reply: Option<Started>,
 }
 
 impl Reached {
@@ -35,29 +51,41 @@ impl Reached {
         let Ok(reported) = next.bus.act(action) else {
             return Ok(None);
         };
-        if let Some(reported) = reported {
-            self.look_at_label(reported)?;
+        match reported {
+            Some(Reported { node, report: Report::Drop { .. } }) => next.enter_drop(node),
+            Some(reported) => self.look_at_report(reported)?,
+            None => (),
         }
         if let Action::Request { node, packet } = action {
-            let reply = Reply { node, label: packet.head.label };
-            if next.reply.replace(reply).is_some() {
+            if next.reply.replace(Started::new(node, packet)).is_some() {
                 return Err(format!("a second reply before the bus is idle: {:?}", self.bus));
             }
         }
         Ok(Some(next))
     }
 
+    fn enter_drop(&mut self, node: u8) {
+        self.request.enter_drop(node);
+        if let Some(reply) = &mut self.reply {
+            reply.enter_drop(node);
+        }
+    }
+
     /// "A confirmation, and the told report before an `ack a`, bears the label of its own request":
     /// the reply's, if it is the reply's node that reports, or if a node is told after it started.
-    fn look_at_label(&self, reported: Reported) -> Result<(), String> {
+    /// And what was dropped is not acknowledged.
+    fn look_at_report(&self, reported: Reported) -> Result<(), String> {
         let Reported { node, report } = reported;
         let own = match self.reply {
-            Some(reply) if reply.node == node || report.tells() => reply.label,
-            _ => REQUEST.head.label,
+            Some(reply) if reply.node == node || report.tells() => reply,
+            _ => self.request,
         };
-        match report.label() == Some(own) {
-            true => Ok(()),
-            false => Err(format!("{reported:?}, and its request has label {own}: {:?}", self.bus)),
+        if report.label() != Some(own.label) {
+            Err(format!("{reported:?}, and its request has label {}: {:?}", own.label, self.bus))
+        } else if matches!(report, Report::Ack { .. }) && own.dropped {
+            Err(format!("{reported:?}, and node {} dropped: {:?}", own.address, self.bus))
+        } else {
+            Ok(())
         }
     }
 
@@ -85,16 +113,18 @@ struct Key {
     marks: [Marks; 4],
     concatenated: bool,
     nodes: Box<[Node]>,
-    reply: Option<Reply>,
+    request: Started,
+    reply: Option<Started>,
 }
 
 impl Key {
-    fn of(Reached { bus, reply }: &Reached) -> Key {
+    fn of(Reached { bus, request, reply }: &Reached) -> Key {
         Key {
             phase: bus.phase,
             marks: [bus.won, bus.pending, bus.holder, bus.misled],
             concatenated: bus.concatenated,
             nodes: bus.nodes[..usize::from(bus.n)].into(),
+            request: *request,
             reply: *reply,
         }
     }
@@ -184,9 +214,9 @@ impl Walk {
     }
 
     /// The longest way from any state reached.
-    fn over_all(&mut self, root: Bus) -> Result<u32, String> {
+    fn over_all(&mut self, root: Reached) -> Result<u32, String> {
         let mut longest = 0;
-        self.behind_fillers.push(Reached { bus: root, reply: None });
+        self.behind_fillers.push(root);
         while let Some(reached) = self.behind_fillers.pop() {
             longest = longest.max(self.longest(&reached)?);
         }
@@ -197,8 +227,9 @@ impl Walk {
 /// Walks from node 0's request to this address: how many states, the longest way, the cells met.
 fn transaction(n: u8, address: u8) -> Result<(usize, u32, Cells), String> {
     let mut bus = Bus::fresh(n).map_err(|refusal| format!("n refused: {}", refusal.number()))?;
+    let request = Packet { address, ..REQUEST };
     for node in 0..n {
-        let packet = if node == 0 { Packet { address, ..REQUEST } } else { WAITING };
+        let packet = if node == 0 { request } else { WAITING };
         if bus.act(Action::Request { node, packet }) != Ok(None) {
             return Err(format!("node {node}: a fresh bus does not take its request"));
         }
@@ -208,7 +239,7 @@ fn transaction(n: u8, address: u8) -> Result<(usize, u32, Cells), String> {
         return Err("node 0 did not win a fresh bus".into());
     }
     let mut walk = Walk::default();
-    let longest = walk.over_all(bus)?;
+    let longest = walk.over_all(Reached { bus, request: Started::new(0, request), reply: None })?;
     Ok((walk.known.len(), longest, walk.cells))
 }
 
@@ -222,14 +253,28 @@ pub fn walk(n: u8) -> Result<String, String> {
         longest = longest.max(length);
         cells.merge(&met);
     }
-    let cells = cells.count();
+    let drops = cells.drops();
     text += &format!(
-        "n = {n}: {states} states, {cells} of 336 cells met, no dead end, longest way of forward actions to Idle {longest}\n"
+        "n = {n}: {states} states, {} of 336 cells met, {} of them drops, no dead end, longest way of forward actions to Idle {longest}\n",
+        cells.count(),
+        drops.len()
     );
     let expected = 21 * u32::from(n) + 1;
-    if longest == expected {
-        Ok(text)
-    } else {
+    if longest != expected {
         Err(format!("{text}n = {n}: the longest way is not 21n + 1 = {expected}"))
+    } else if drops != expected_drops(n) {
+        Err(format!("{text}n = {n}: the drops are {drops:?}"))
+    } else {
+        Ok(text)
+    }
+}
+
+/// All that runs meet; with two nodes there is no third that overhears an acknowledgement.
+fn expected_drops(n: u8) -> &'static [&'static str] {
+    let overheard = 4;
+    if n == 2 {
+        &DROPS[overheard..]
+    } else {
+        &DROPS
     }
 }

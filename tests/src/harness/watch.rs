@@ -1,7 +1,9 @@
 //! Demand 3 watched on a run, by books kept straight from "The words of demand 3".
 
 use super::forward;
-use crate::bus::{Action, Bus, Mode, Outcome, Packet, Phase, Record, Refusal, Report, Reported};
+use crate::bus::{
+    Action, Bus, Mode, Outcome, Packet, Phase, Reading, Record, Refusal, Report, Reported, Signal,
+};
 
 /// What was broken, in words.
 pub type Violation = String;
@@ -12,6 +14,13 @@ struct Told {
     when: usize,
     node: u8,
     report: Report,
+}
+
+/// A report drop.
+#[derive(Clone, Copy)]
+struct Dropped {
+    node: u8,
+    left: Reading,
 }
 
 /// An accepted respond.
@@ -26,9 +35,11 @@ struct Respond {
 #[derive(Clone, Copy)]
 struct Started {
     packet: Packet,
-    /// How many times nodes were told, and how many responds accepted, before it started.
+    /// How many times nodes were told, how many responds accepted, and how many times nodes
+    /// dropped, before it started.
     told: usize,
     responds: usize,
+    drops: usize,
     confirmations: usize,
 }
 
@@ -53,6 +64,7 @@ pub struct Watch {
     when: usize,
     told: Vec<Told>,
     responds: Vec<Respond>,
+    drops: Vec<Dropped>,
     /// How many requests have started at once since the last `won`.
     replies: usize,
     books: Vec<Books>,
@@ -63,7 +75,8 @@ impl Watch {
     /// returned".
     pub fn new(bus: Bus) -> Watch {
         let books = vec![Books::default(); bus.n.into()];
-        Watch { bus, when: 0, told: Vec::new(), responds: Vec::new(), replies: 0, books }
+        let (told, responds, drops) = (Vec::new(), Vec::new(), Vec::new());
+        Watch { bus, when: 0, told, responds, drops, replies: 0, books }
     }
 
     /// Plays one action and looks at everything that demand 3 says.
@@ -76,6 +89,7 @@ impl Watch {
                 let action = record
                     .look(before.n)
                     .map_err(|refusal| format!("accepted though refusal {}", refusal.number()))?;
+                self.look_at_drops(&before, action, reported)?;
                 self.enter_action(action)?;
                 if let Some(reported) = reported {
                     self.enter_report(reported)?;
@@ -113,17 +127,21 @@ impl Watch {
 
     fn start(&mut self, node: u8, packet: Packet) {
         let (told, responds) = (self.told.len(), self.responds.len());
+        let drops = self.drops.len();
         let books = &mut self.books[usize::from(node)];
         if books.last.is_some_and(|last| last.confirmations != 1) {
             books.unsettled = true;
         }
-        books.last = Some(Started { packet, told, responds, confirmations: 0 });
+        books.last = Some(Started { packet, told, responds, drops, confirmations: 0 });
     }
 
     fn enter_report(&mut self, reported: Reported) -> Result<(), Violation> {
         let Reported { node, report } = reported;
         if report.tells() {
             self.told.push(Told { when: self.when, node, report });
+        }
+        if let Report::Drop { left } = report {
+            self.drops.push(Dropped { node, left });
         }
         if report == Report::Won {
             self.replies = 0;
@@ -177,6 +195,34 @@ impl Watch {
                 respond.node, respond.ack, respond.when, told.when
             ));
         }
+        // What was dropped is not acknowledged.
+        match self.drops[request.drops..].iter().find(|dropped| dropped.node == address) {
+            Some(Dropped { left, .. }) => {
+                Err(format!("node {address} dropped in {left:?} since the request started"))
+            }
+            None => Ok(()),
+        }
+    }
+
+    /// A drop is reported where a node drops, by that node, and nowhere else.
+    fn look_at_drops(
+        &self,
+        before: &Bus,
+        action: Action,
+        reported: Option<Reported>,
+    ) -> Result<(), Violation> {
+        for node in 0..before.n {
+            let dropped = drops(before, action, node, self.bus.node(node).mode);
+            let said = match reported {
+                Some(Reported { node: who, report: Report::Drop { left } }) if who == node => {
+                    Some(left)
+                }
+                _ => None,
+            };
+            if dropped != said {
+                return Err(format!("node {node}: dropped in {dropped:?}, reported {said:?}"));
+            }
+        }
         Ok(())
     }
 
@@ -218,4 +264,31 @@ impl Watch {
         }
         Ok(())
     }
+}
+
+/// The mode that a node leaves by dropping a packet, if it drops one. "When a node in Opened through
+/// the Tail modes goes to Wait or Owed, the report becomes `drop` and the name of the mode it left.
+/// A Gap to Rest is no drop, nor is a Dest of another node met in Addressed. TailAll with bad data
+/// reports drop TailAll on End or Prefix too, though it goes to Rest."
+fn drops(before: &Bus, action: Action, node: u8, after: Mode) -> Option<Reading> {
+    let mode = before.node(node).mode;
+    let left = match mode {
+        Mode::Opened => Reading::Opened,
+        Mode::Addressed => Reading::Addressed,
+        Mode::HeadOwn => Reading::HeadOwn,
+        Mode::HeadAll => Reading::HeadAll,
+        Mode::BodyOwn { .. } => Reading::BodyOwn,
+        Mode::BodyAll { .. } => Reading::BodyAll,
+        Mode::TailOwn { .. } => Reading::TailOwn,
+        Mode::TailAll { .. } => Reading::TailAll,
+        _ => return None,
+    };
+    let signal = before.arrival(action).ok().and_then(|(_, signal)| signal);
+    let drops = match (mode, signal, after) {
+        (Mode::Addressed, Some(Signal::Dest(_)), Mode::Wait) => false,
+        (Mode::TailAll { data: None, .. }, Some(Signal::End | Signal::Prefix), Mode::Rest) => true,
+        (_, _, Mode::Wait | Mode::Owed) => true,
+        _ => false,
+    };
+    drops.then_some(left)
 }

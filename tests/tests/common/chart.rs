@@ -1,7 +1,8 @@
-//! "What a node does with a signal", written by hand from the rows of document 01 and request 1.
+//! "What a node does with a signal", written by hand from the rows of document 01 and from requests 1
+//! and 4.
 
 use super::packet;
-use bench_model::bus::{Check, Head, Mode, Node, Report, Signal};
+use bench_model::bus::{Check, Head, Mode, Node, Reading, Report, Signal};
 
 /// The mode before, then what comes of each signal: the mode, `!report`, `+` for pending. `.` is
 /// to stay. The lines are in document 01's order, the columns in that of [`Receiver::signals`].
@@ -11,16 +12,16 @@ AwaitAck  AckBody Wait!miss . Rest!miss Wait!miss Wait!miss Wait!miss Wait!miss 
 AckBody   Wait!miss Wait!miss Wait!miss Rest!miss AckEnd- AckEnd- AckEnd- AckEnd- AckEnd- AckEnd- AckEnd- AckEnd- AckEnd AckEnd-
 AckEnd    Wait!miss Wait!ack Listening!ack Rest!miss Wait!miss Wait!miss Wait!miss Wait!miss Wait!miss Wait!miss Wait!miss Wait!miss Wait!miss Wait!miss
 AckEnd-   Wait!miss Wait!miss Wait!miss Rest!miss Wait!miss Wait!miss Wait!miss Wait!miss Wait!miss Wait!miss Wait!miss Wait!miss Wait!miss Wait!miss
-Opened    Wait Wait Wait Rest Addressed Addressed Addressed Addressed Addressed Addressed Addressed Addressed Addressed Addressed
-Addressed Wait Wait Wait Rest Wait HeadOwn+ HeadAll Wait Wait Wait Wait Wait Wait Wait
-HeadOwn   Owed Owed Owed Owed Owed Owed Owed Owed BodyOwn Owed Owed Owed Owed Owed
-HeadAll   Wait Wait Wait Rest Wait Wait Wait Wait BodyAll Wait Wait Wait Wait Wait
-BodyOwn   Owed Owed Owed Owed Owed Owed Owed Owed Owed Owed TailOwn TailOwn- Owed Owed
-BodyAll   Wait Wait Wait Rest Wait Wait Wait Wait Wait Wait TailAll TailAll- Wait Wait
-TailOwn   Owed Told!good Told!good Owed Owed Owed Owed Owed Owed Owed Owed Owed Owed Owed
-TailOwn-  Owed Told!dcrc Told!dcrc Owed Owed Owed Owed Owed Owed Owed Owed Owed Owed Owed
-TailAll   Wait Rest!broad Rest!broad Rest Wait Wait Wait Wait Wait Wait Wait Wait Wait Wait
-TailAll-  Wait Rest Rest Rest Wait Wait Wait Wait Wait Wait Wait Wait Wait Wait
+Opened    Wait!drop Wait!drop Wait!drop Rest Addressed Addressed Addressed Addressed Addressed Addressed Addressed Addressed Addressed Addressed
+Addressed Wait!drop Wait!drop Wait!drop Rest Wait!drop HeadOwn+ HeadAll Wait Wait!drop Wait!drop Wait!drop Wait!drop Wait!drop Wait!drop
+HeadOwn   Owed!drop Owed!drop Owed!drop Owed!drop Owed!drop Owed!drop Owed!drop Owed!drop BodyOwn Owed!drop Owed!drop Owed!drop Owed!drop Owed!drop
+HeadAll   Wait!drop Wait!drop Wait!drop Rest Wait!drop Wait!drop Wait!drop Wait!drop BodyAll Wait!drop Wait!drop Wait!drop Wait!drop Wait!drop
+BodyOwn   Owed!drop Owed!drop Owed!drop Owed!drop Owed!drop Owed!drop Owed!drop Owed!drop Owed!drop Owed!drop TailOwn TailOwn- Owed!drop Owed!drop
+BodyAll   Wait!drop Wait!drop Wait!drop Rest Wait!drop Wait!drop Wait!drop Wait!drop Wait!drop Wait!drop TailAll TailAll- Wait!drop Wait!drop
+TailOwn   Owed!drop Told!good Told!good Owed!drop Owed!drop Owed!drop Owed!drop Owed!drop Owed!drop Owed!drop Owed!drop Owed!drop Owed!drop Owed!drop
+TailOwn-  Owed!drop Told!dcrc Told!dcrc Owed!drop Owed!drop Owed!drop Owed!drop Owed!drop Owed!drop Owed!drop Owed!drop Owed!drop Owed!drop Owed!drop
+TailAll   Wait!drop Rest!broad Rest!broad Rest Wait!drop Wait!drop Wait!drop Wait!drop Wait!drop Wait!drop Wait!drop Wait!drop Wait!drop Wait!drop
+TailAll-  Wait!drop Rest!drop Rest!drop Rest Wait!drop Wait!drop Wait!drop Wait!drop Wait!drop Wait!drop Wait!drop Wait!drop Wait!drop Wait!drop
 Wait      . . . Rest . . . . . . . . . .
 Owed      . . . . . . . . . . . . . .
 Sending   . . . . . . . . . . . . . .
@@ -68,6 +69,21 @@ fn answer(before: &'static str, word: &'static str) -> Answer {
         Answer { next, report: None, pending: true }
     } else {
         Answer { next: word, report: None, pending: false }
+    }
+}
+
+/// "the name of the mode it left": "no word on good or bad data"
+pub fn reading(name: &str) -> Reading {
+    match name {
+        "Opened" => Reading::Opened,
+        "Addressed" => Reading::Addressed,
+        "HeadOwn" => Reading::HeadOwn,
+        "HeadAll" => Reading::HeadAll,
+        "BodyOwn" => Reading::BodyOwn,
+        "BodyAll" => Reading::BodyAll,
+        "TailOwn" | "TailOwn-" => Reading::TailOwn,
+        "TailAll" | "TailAll-" => Reading::TailAll,
+        _ => panic!("{name} is left without a drop"),
     }
 }
 
@@ -174,9 +190,10 @@ impl Receiver {
         Node { mode, buffer: Some(packet(63, 33, 34, 40)), sending }
     }
 
-    /// The report with this word: miss and ack with the label of the packet being sent, the others
-    /// of what the receiver remembers, the header's label too.
-    pub fn report(&self, word: &str) -> Report {
+    /// The report with this word, of a node that was in the mode `before`: miss and ack with the
+    /// label of the packet being sent, good, dcrc and broad of what the receiver remembers, the
+    /// header's label too, drop with the name of that mode.
+    pub fn report(&self, before: &str, word: &str) -> Report {
         let Values { head, data, ack } = self.remembered;
         let label = self.label();
         match word {
@@ -185,6 +202,7 @@ impl Receiver {
             "good" => Report::Good { head, data },
             "dcrc" => Report::Dcrc { head },
             "broad" => Report::Broad { head, data },
+            "drop" => Report::Drop { left: reading(before) },
             _ => panic!("{word} is no report of a reception"),
         }
     }
