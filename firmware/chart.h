@@ -12,7 +12,7 @@
 
 #define CHART_MODES   24
 #define CHART_CLASSES 14
-#define CHART_REPORTS 6
+#define CHART_REPORTS 7
 
 /* The modes of a node, by place. */
 enum chart_mode {
@@ -67,7 +67,8 @@ enum chart_report {
     CHART_ACK            =  2, /* ack a: its packet was acknowledged with a */
     CHART_GOOD           =  3, /* good h d: a packet to this node, header h, data d */
     CHART_DCRC           =  4, /* dcrc h: a packet to this node, header h, its data were bad */
-    CHART_BROAD          =  5  /* broad h d: a packet to all nodes, header h, data d */
+    CHART_BROAD          =  5, /* broad h d: a packet to all nodes, header h, data d */
+    CHART_DROP           =  6  /* drop: it gave up the packet that it was reading; the mode it left says where */
 };
 
 /* What a node in one mode does with a signal of one class. */

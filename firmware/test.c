@@ -71,6 +71,7 @@ static const struct name reports[] = {
     {CHART_GOOD, "good"},
     {CHART_DCRC, "dcrc"},
     {CHART_BROAD, "broad"},
+    {CHART_DROP, "drop"},
 };
 
 #define COUNT(list) ((int)(sizeof(list) / sizeof((list)[0])))
