@@ -104,12 +104,12 @@ fn each_drop_on_a_state_handed_in() {
 fn a_gap_delivered() {
     for receiver in RECEIVERS {
         let Receiver { own, other, .. } = receiver;
-        for (before, next) in [("HeadOwn", "Owed"), ("BodyOwn", "Owed"), ("TailOwn-", "Owed")] {
+        for before in ["HeadOwn", "BodyOwn", "TailOwn", "TailOwn-"] {
             let (mut bus, _) = handed_in(&receiver, receiver.mode(before), Signal::Gap);
             bus.phase = Phase::Delivering { sender: other, signal: Signal::Gap, receiver: own };
             let report = Report::Drop { left: reading(before) };
             assert_eq!(bus.step(&pass()), Ok(Some(Reported { node: own, report })));
-            assert_eq!(bus.node(own).mode, receiver.mode(next));
+            assert_eq!(bus.node(own).mode, Mode::Owed);
         }
     }
 }

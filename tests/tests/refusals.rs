@@ -3,7 +3,10 @@
 
 mod common;
 
-use bench_model::bus::{Action, Bus, Check, Head, Marks, Mode, Phase, Record, Refusal, Signal};
+use bench_model::bus::{
+    Action, Bus, Check, Head, Marks, Mode, Phase, Reading, Record, Refusal, Report, Reported,
+    Signal,
+};
 use common::*;
 
 /// What a step on this state says, and that a refusal leaves the state as it was.
@@ -233,8 +236,10 @@ fn change_of_each_signal() {
         assert_eq!(refused(&bus(clocks), change(1)), 7);
         assert_eq!(refused(&bus(clocks), change(63)), 7);
         assert_eq!(refused(&bus(clocks), change(10)), 5);
-        assert!(bus(clocks).step(&change(0)).is_ok());
     }
+    let report = Report::Drop { left: Reading::HeadOwn };
+    assert_eq!(bus(4).step(&change(0)), Ok(Some(Reported { node: 1, report })));
+    assert_eq!(bus(5).step(&change(0)), Ok(None));
 }
 
 #[test]
