@@ -44,7 +44,7 @@ use Rattle.charts.proofs.Places.{mode-is, law, law-mode, active, stepOf
 use Rattle.charts.proofs.Payload.{OthersIn, sends, Carry, Tells, told-none, told-good, told-dcrc, told-broad, signal-is, answers-to, past, inRow, in-row, row-in, turn-in, holding-past, carries}
 use Rattle.charts.proofs.Stages.{rowAt, turnAt, quiet, grantSteps, clearSteps, Delivery, BusyAt, talks, clears, Stage}
 use Rattle.charts.proofs.Reach.{Reach, answerers, allBelow, mem-below, low-places, step-place, is-talker, no-turn}
-use Rattle.charts.proofs.Ways.{afterGap, passed-by, Puts, start, dhead, dest, header, datum, end-all, end-one, filler, ack-start, ack-body, ack-hold, ack-end, holds-on, Arrives, passes, redirects, bad-header, bad-data, bad-ack, Effect, waits, replies, wins, loses, gives, puts, frees, arrives, drops, grants, grants-none, gaps, settles, resets}
+use Rattle.charts.proofs.Ways.{afterGap, passed-by, Puts, start, dhead, dest, header, datum, end-all, end-one, filler, ack-start, ack-body, ack-hold, ack-end, holds-on, Arrives, passes, redirects, bad-header, bad-data, bad-ack, Effect, waits, replies, wins, loses, gives, puts, frees, arrives, is-lost, grants, grants-none, gaps, settles, resets}
 use Rattle.charts.proofs.Books.{Kept, Runs, ours, By, silent, acks, misses, dropped, good, dcrc, broad, by, conf, leaves, remains, holdOf}
 
 -- WHAT A NODE SAYS OF A REQUEST, by its mode: nothing; that it was told; the acknowledgement that its user gave
@@ -648,7 +648,7 @@ module _ (s : State) (bk : ℕ → Book) (v : Heed s bk) (p : Packet) (ca : Carr
   heeds (arrives {w = w} {g = g} {t = t} {b = b} z x) =
       hears-heed s bk v p ca kp _ i l t (hearing (s .cell i) (receives hears i (s .cell i) t) b) (acks-on z _ _) (only-awaits (s .concatenated) (s .n) (s .cell) w g i (at-stage z)) (ack-ends z x)
       (carries p s ca re i l (arrives z x) .tells)
-  heeds (drops z e) = stays _ (acks-on z _ (s .cell i))
+  heeds (is-lost z e) = stays _ (acks-on z _ (s .cell i))
   heeds (grants z e f) =
       calm s bk v _ i _ bk (λ k kl o h. refl) (granted-voice (s .cell i .mode))
       (pick (λ x. Own s bk v i x (bk i .running)) (isTold (s .cell i .mode)) _ _ (own-none s bk v i Answering _ refl)

@@ -43,7 +43,7 @@ use Rattle.charts.proofs.Tools.{never, clash, implies, implied, and-tru
 use Rattle.charts.specs.Words as W
 use Rattle.charts.specs.Words.{wordOf}
 use Rattle.charts.proofs.Places.{hold-in, mode-is, law}
-use Rattle.charts.proofs.Ways.{Puts, start, dhead, dest, header, datum, end-all, end-one, filler, ack-start, ack-body, ack-hold, ack-end, holds-on, Effect, waits, replies, wins, loses, gives, puts, frees, arrives, drops, grants, grants-none, gaps, settles, resets}
+use Rattle.charts.proofs.Ways.{Puts, start, dhead, dest, header, datum, end-all, end-one, filler, ack-start, ack-body, ack-hold, ack-end, holds-on, Effect, waits, replies, wins, loses, gives, puts, frees, arrives, is-lost, grants, grants-none, gaps, settles, resets}
 use Rattle.charts.proofs.Steps.{Stepped, refused, acts, stepped}
 
 -- a node in such a mode has a started request without confirmation
@@ -284,7 +284,7 @@ module _ (s : State) where
   event-names (puts q h o x) = record { mover = λ k b. refl; reporter = put x .reporter }
   event-names (frees q h e) = record { mover = λ k b. refl; reporter = nothing refl }
   event-names (arrives {j = j} {t = t} q x) = record { mover = λ k b. refl; reporter = by-of (by j _ (s .cell j .mode) t) }
-  event-names (drops q e) = record { mover = λ k b. refl; reporter = nothing refl }
+  event-names (is-lost q e) = record { mover = λ k b. refl; reporter = nothing refl }
   event-names (grants q e l) = record { mover = λ k b. refl; reporter = nothing refl }
   event-names (grants-none q e) = record { mover = λ k b. refl; reporter = nothing refl }
   event-names (gaps {j = j} q u) = record { mover = λ k b. refl; reporter = by-of (by j _ (s .cell j .mode) _) }
@@ -311,7 +311,7 @@ module _ (s : State) where
   own b (puts q h o x) v = put x .keeps v
   own b (frees {i = i} q h e) v = stay refl refl (λ z. never z) (subst (λ m. Keeps m (s .cell i .buffer) (s .cell i .sending) b) e v)
   own b (arrives {j = j} {t = t} q x) v = hear j _ t v
-  own b (drops q e) v = v
+  own b (is-lost q e) v = v
   own b (grants q e l) v = grant v
   own b (grants-none q e) v = v
   own b (gaps {j = j} q u) v = hear j _ _ v

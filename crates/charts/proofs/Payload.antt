@@ -40,7 +40,7 @@ use Rattle.charts.specs.Words as W
 use Rattle.charts.specs.Words.{wordOf}
 use Rattle.charts.proofs.Places.{mode-is, law, law-mode, active, stepOf, sendingAt, ackingAt}
 use Rattle.charts.proofs.Stages.{Row, rowAt, turnAt, quiet, grantSteps, clearSteps, Delivery, Talk, BusyAt, talks, clears, Stage}
-use Rattle.charts.proofs.Ways.{Puts, start, dhead, dest, header, datum, end-all, end-one, filler, ack-start, ack-body, ack-hold, ack-end, holds-on, Arrives, passes, redirects, bad-header, bad-data, bad-ack, Effect, waits, replies, wins, loses, gives, puts, frees, arrives, drops, grants, grants-none, gaps, settles, resets}
+use Rattle.charts.proofs.Ways.{Puts, start, dhead, dest, header, datum, end-all, end-one, filler, ack-start, ack-body, ack-hold, ack-end, holds-on, Arrives, passes, redirects, bad-header, bad-data, bad-ack, Effect, waits, replies, wins, loses, gives, puts, frees, arrives, is-lost, grants, grants-none, gaps, settles, resets}
 use Rattle.charts.proofs.Reach.{Reach, answerers, is-talker, is-sender, row-fact, turn-fact, no-turn, not-clearing, sole-quiet}
 
 -- the nodes other than i are in places of `room`
@@ -405,7 +405,7 @@ module _ (p : Packet) (s : State) (v : Carry p s) (re : Reach s) (i : ℕ) (l : 
   carries (arrives {w = w} {g = g} {t = t} {b = b} z x) =
       let y : Says p false g = subst (SaysAt p) z (v .signal) in
       hear p s v _ i t _ b l (onward-says p s v (s .n) w g i _ y) (arrives-says p x y) refl refl refl
-  carries (drops {w = w} {g = g} z e) = untold p (stays _ (onward-says p s v (s .n) w g i _ (subst (SaysAt p) z (v .signal)))) refl
+  carries (is-lost {w = w} {g = g} z e) = untold p (stays _ (onward-says p s v (s .n) w g i _ (subst (SaysAt p) z (v .signal)))) refl
   carries (grants z e f) =
       untold p (changes p s v _ i _ (pick (SaysAt p) (others (pendings (s .cell)) i (s .n)) _ _ tt tt) (granted-bears (v .all i l)) (λ q. v .own i l (granted-sends (s .cell i .mode) q))) refl
   carries (grants-none z e) = untold p (stays Busy tt) refl

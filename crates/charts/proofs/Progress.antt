@@ -32,7 +32,7 @@ use Rattle.charts.specs.Actions.{receives, does, firstOther, nextOther, 
 use Rattle.charts.specs.Demand.{forward}
 use Rattle.charts.proofs.Tools.{never, clash, implies, implied, not-implied, and-true, neither, or-true, pick-by, at-upd, at-upd≢, upd-same, upd-other, upd-map, none-of, some-at, some-agree, others-off, lowest-of, lowest-lt, table-at, mem, everyIn, mem-sub, not-mem-sub, mem-two, pick, by-test}
 use Rattle.charts.proofs.Places.{law, law-mode, owing, active, owes, acts, gap-owes, stepOf, no-hold, hears-no-hold, place-lt, sendingAt, ackingAt}
-use Rattle.charts.proofs.Ways.{afterGap, passed-by, Puts, start, dhead, dest, header, datum, end-all, end-one, filler, ack-start, ack-body, ack-hold, ack-end, holds-on, Arrives, passes, redirects, bad-header, bad-data, bad-ack, Effect, waits, replies, wins, loses, gives, puts, frees, arrives, drops, grants, grants-none, gaps, settles, resets}
+use Rattle.charts.proofs.Ways.{afterGap, passed-by, Puts, start, dhead, dest, header, datum, end-all, end-one, filler, ack-start, ack-body, ack-hold, ack-end, holds-on, Arrives, passes, redirects, bad-header, bad-data, bad-ack, Effect, waits, replies, wins, loses, gives, puts, frees, arrives, is-lost, grants, grants-none, gaps, settles, resets}
 use Rattle.charts.proofs.Steps.{remarked-n}
 use Rattle.charts.proofs.Stages.{rowAt, roundOf, fillerOf, Turn, turnAt, packetRead, quiet, waiting, ended, answering, requesting, reading, grantSteps, clearSteps, acting, Sole, Delivery, Talk, Clear, BusyAt, talks, clears, GrantingAt, GappingAt, IdleAt, Stage, weigh, weights, total, left, bonus, rowRank, turnRank, clearRank, busyRank, rank, Lands, heard-lands, lost-lands}
 use Rattle.charts.proofs.Reach.{Marks, Reach, low-places, low-place, step-place, passive-steps, is-talker, turn-fact, no-turn, sole-quiet}
@@ -196,7 +196,7 @@ module _ (s : State) (v : Reach s) where
   own-marks m i r p c x (puts {g = g} {m = m′} q h o y) = let z = puts-marks i (s .cell i .sending) (s .cell i .mode) g m′ r y in (ms i .0 ∙ z .0 ∙ sym (z .1), z .2)
   own-marks m i r p c x (frees q h e) = (ms i .0 ∙ ap (λ m. owing (placeOf m)) e, refl)
   own-marks m i r p c x (arrives {t = t} q y) = (ap (λ b. b || receives hears i (s .cell i) t .pends) (ms i .0) ∙ sym (owes i _ (s .cell i .mode) t), ms i .1 ∙ sym (acts i _ (s .cell i .mode) t))
-  own-marks m i r p c x (drops q e) = ms i
+  own-marks m i r p c x (is-lost q e) = ms i
   own-marks m i r p c x (grants q e l) = let g = is-granted (s .cell i .mode) whole in (sym (g .frees), sym (g .holds))
     where
       at : GrantingAt (s .n) (s .cell)
@@ -238,7 +238,7 @@ module _ (s : State) (v : Reach s) where
   own-last m i r p c x l (puts {g = g} {m = m′} q h o y) z = puts-last i l (s .cell i .mode) g m′ r refl y z
   own-last m i r p c x l (frees q h e) z = refl
   own-last m i r p c x l (arrives {t = t} q y) z = hears-no-hold i _ (s .cell i .mode) t (v .last z i l)
-  own-last m i r p c x l (drops q e) z = v .last z i l
+  own-last m i r p c x l (is-lost q e) z = v .last z i l
   own-last m i r p c x l (grants q e u) z =
       pick (λ (m : Mode). holdIn m ≡ false) (isTold (s .cell i .mode)) _ _ refl (pick (λ (m : Mode). holdIn m ≡ false) (isOwed (s .cell i .mode)) _ _ refl (v .last z i l))
   own-last m i r p c x l (grants-none q e) z = v .last z i l
@@ -256,7 +256,7 @@ module _ (s : State) (v : Reach s) where
       (not-implied _ _ (law-mode (λ p. implies (eqb p P.acking) (active p)) tt (s .cell k .mode)) (sym (ms k .1) ∙ others-off (holders (s .cell)) (s .n) i u k l o))
   others-last m i r p c x (frees q h e) z k o l = v .last z k l
   others-last m i r p c x (arrives q y) z k o l = v .last z k l
-  others-last m i r p c x (drops q e) z k o l = v .last z k l
+  others-last m i r p c x (is-lost q e) z k o l = v .last z k l
   others-last m i r p c x (grants q e u) z k o l = v .last z k l
   others-last m i r p c x (grants-none q e) z k o l = v .last z k l
   others-last m i r p c x (gaps q u) z k o l = v .last z k l
@@ -1057,7 +1057,7 @@ module _ (s : State) (v : Reach s) where
       forward-it {z} {p} {f} g = record { stage = g .stage; lower = λ e. g .lower refl }
   moves-on m i r p c x l (arrives {v = y} {w = w} {g = g} {t = t} {b = b} q z) = on-phase mark (s .n) (s .cell) (λ z. Goes true z (concatenatedAfter x mark) p (s .n) (upd (s .cell) i c)) (s .phase) (Delivering w g i) q (v .stage) λ a.
       delivered-goes s w g i a c (heard-lands (a .d) (a .d-lt) i _ (s .cell i .mode) t (same-kind _ y g t b z ∙ a .kind) (a .before i (a .next-lt) (a .apart) (omega arith))) (λ k. at-upd (λ k c. Marks c) (s .cell) i c k (own-marks s v m i r p c x (arrives q z)) (v .marks k))
-  moves-on m i r p c x l (drops {w = w} {g = g} q e) = on-phase mark (s .n) (s .cell) (λ z. Goes true z (concatenatedAfter x mark) p (s .n) (upd (s .cell) i c)) (s .phase) (Delivering w g i) q (v .stage) λ a.
+  moves-on m i r p c x l (is-lost {w = w} {g = g} q e) = on-phase mark (s .n) (s .cell) (λ z. Goes true z (concatenatedAfter x mark) p (s .n) (upd (s .cell) i c)) (s .phase) (Delivering w g i) q (v .stage) λ a.
       delivered-goes s w g i a c (lost-lands (a .d) (a .d-lt) (subst (λ q. leb 6 q ≡ true) (a .kind) e) (s .cell i .mode) (a .before i (a .next-lt) (a .apart) (omega arith)))
       (λ k. at-upd (λ k c. Marks c) (s .cell) i c k (v .marks i) (v .marks k))
   moves-on m i r p c x l (grants q e z) = on-phase mark (s .n) (s .cell) (λ z. Goes true z (concatenatedAfter x mark) p (s .n) (upd (s .cell) i c)) (s .phase) Granting q (v .stage) λ a.

@@ -32,7 +32,7 @@ use Rattle.charts.specs.Demand.{one, meetsIdle}
 use Rattle.charts.specs.Replies.{isReply, repliesIn}
 use Rattle.charts.proofs.Tools.{never, clash, implies, not-implied, or-false, pick, by-test, at-upd, at-upd≢, mem}
 use Rattle.charts.proofs.Places.{law, active, stepAt, stepOf}
-use Rattle.charts.proofs.Ways.{Puts, start, dhead, dest, header, datum, end-all, end-one, filler, ack-start, ack-body, ack-hold, ack-end, holds-on, Effect, waits, replies, wins, loses, gives, puts, frees, arrives, drops, grants, grants-none, gaps, settles, resets}
+use Rattle.charts.proofs.Ways.{Puts, start, dhead, dest, header, datum, end-all, end-one, filler, ack-start, ack-body, ack-hold, ack-end, holds-on, Effect, waits, replies, wins, loses, gives, puts, frees, arrives, is-lost, grants, grants-none, gaps, settles, resets}
 use Rattle.charts.proofs.Steps.{Known, Stepped, refused, acts, stepped}
 use Rattle.charts.proofs.Stages.{roundOf, grantSteps, clearSteps, quiet, talks, clears, Stage}
 use Rattle.charts.proofs.Reach.{Reach, is-talker, is-sender, row-fact, turn-fact, not-clearing}
@@ -113,7 +113,7 @@ module _ (s : State) (v : Reach s) where
   spends m i r p c x l (puts q h o y) z = never z
   spends m i r p c x l (frees q h e) z = never z
   spends m i r p c x l (arrives q y) z = never z
-  spends m i r p c x l (drops q e) z = never z
+  spends m i r p c x l (is-lost q e) z = never z
   spends m i r p c x l (grants q e u) z = never z
   spends m i r p c x l (grants-none q e) z = never z
   spends m i r p c x l (gaps q u) z = never z
@@ -130,7 +130,7 @@ module _ (s : State) (v : Reach s) where
     own-none m i r p c x l (puts {g = g} {m = m′} q h o y) = puts-none i (s .cell i .sending) (s .cell i .mode) g m′ r (v .last (u .marked) i l) (u .none i l) y
     own-none m i r p c x l (frees q h e) = refl
     own-none m i r p c x l (arrives {t = t} q y) = hears-none i _ (s .cell i .mode) t (u .none i l)
-    own-none m i r p c x l (drops q e) = u .none i l
+    own-none m i r p c x l (is-lost q e) = u .none i l
     own-none m i r p c x l (grants q e y) =
         pick (λ (m : Mode). isHolding m ≡ false) (isTold (s .cell i .mode)) _ _ refl (pick (λ (m : Mode). isHolding m ≡ false) (isOwed (s .cell i .mode)) _ _ refl (u .none i l))
     own-none m i r p c x l (grants-none q e) = u .none i l
@@ -150,7 +150,7 @@ module _ (s : State) (v : Reach s) where
         (pick (λ x. concatenatedAfter x (s .concatenated) ≡ true) (isAcking (s .cell i .mode) && isPrefix g) _ _ refl (u .marked))
     stays-marked m i r p c x z (frees q h e) = u .marked
     stays-marked m i r p c x z (arrives q y) = u .marked
-    stays-marked m i r p c x z (drops q e) = u .marked
+    stays-marked m i r p c x z (is-lost q e) = u .marked
     stays-marked m i r p c x z (grants q e y) = u .marked
     stays-marked m i r p c x z (grants-none q e) = u .marked
     stays-marked m i r p c x z (gaps q y) = u .marked

@@ -246,7 +246,7 @@ module _ (s : State) (v : Valid s) where
   fit {i = i} k l (W.arrives {w = w} {g = g} {t = t} q x) =
       let d = delivering w g i q in
       (onward-fits n w g i _ d, in-mode i l _ (hears-fits n i _ (s .cell i .mode) t (arrives-fit n x k (d .signal-fits)) (was i l .mode-fits)))
-  fit {i = i} k l (W.drops {w = w} {g = g} q u) = (onward-fits n w g i _ (delivering w g i q), was i l)
+  fit {i = i} k l (W.is-lost {w = w} {g = g} q u) = (onward-fits n w g i _ (delivering w g i q), was i l)
   fit {i = i} k l (W.grants q e u) = (
     pick (λ p. phaseFits n p ≡ true) (others (pendings (s .cell)) i n) _ _ refl refl,
     in-mode i l _ (pick Fits (isTold (s .cell i .mode)) _ _ refl (pick Fits (isOwed (s .cell i .mode)) _ _ refl (was i l .mode-fits))),

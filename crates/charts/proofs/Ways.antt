@@ -104,7 +104,7 @@ pub data Effect (s : State) : Move → ℕ → Outcome → Type 0 where
       Effect s (Clock i) i (quietly (afterFree (s .n) i (holders (s .cell))) (freed (s .cell i)))
   arrives : {v : Way} {w : ℕ} {g : Signal} {j : ℕ} {t : Signal} {b : Bool} → s .phase ≡ Delivering w g j → Arrives (s .cell j .misled) v g t b →
       Effect s (Carry v) j (delivers (s .n) w g j (pendings (s .cell)) (receives hears j (s .cell j) t .report) (hearing (s .cell j) (receives hears j (s .cell j) t) b))
-  drops : {w : ℕ} {g : Signal} {j : ℕ} → s .phase ≡ Delivering w g j → leb 6 (kindOf g) ≡ true → Effect s (Carry Lose) j (delivers (s .n) w g j (pendings (s .cell)) R.Silent (s .cell j))
+  is-lost : {w : ℕ} {g : Signal} {j : ℕ} → s .phase ≡ Delivering w g j → leb 6 (kindOf g) ≡ true → Effect s (Carry Lose) j (delivers (s .n) w g j (pendings (s .cell)) R.Silent (s .cell j))
   grants : {i : ℕ} → s .phase ≡ Granting → some (pendings (s .cell)) (s .n) ≡ true → lowest (pendings (s .cell)) (s .n) 0 ≡ i →
       Effect s Grant i (quietly (afterGrant (s .n) i (pendings (s .cell))) (takesGrant (s .cell i)))
   grants-none : {i : ℕ} → s .phase ≡ Granting → some (pendings (s .cell)) (s .n) ≡ false → Effect s Grant i (quietly Busy (s .cell i))
@@ -225,9 +225,9 @@ module _ (s : State) where
   lost w Gap j q = refuses
   lost w Dhead j q = refuses
   lost w (Dest a) j q = refuses
-  lost w (Header h c) j q = drops q refl
-  lost w (Data d c) j q = drops q refl
-  lost w (Ack a c) j q = drops q refl
+  lost w (Header h c) j q = is-lost q refl
+  lost w (Data d c) j q = is-lost q refl
+  lost w (Ack a c) j q = is-lost q refl
 
   changed : (b w : ℕ) (g : Signal) (j : ℕ) → s .phase ≡ Delivering w g j → Delivers w g j (Change b) (Arrivals.changed b g)
   changed b w Start j q = refuses
