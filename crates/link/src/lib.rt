@@ -65,8 +65,8 @@ fn say(word: u8, me: u8, label: u8, place: u8, kept: Kept) -> Report
     }
 }
 
-// What node `me` in a mode does with a signal, by a table of the chart: it looks its cell up, and adds what modes remember and the label of the
-// packet that it is sending.
+// What node `me` in a mode does with a signal, by a table of the chart: it looks its cell up, and adds what modes remember, the label of the
+// packet that it is sending, and the name of the mode that it leaves.
 // With the chart's own table this is what the chart says (proofs/Reading.antt).
 pub fn receive(table: &[u16; 336], me: u8, label: u8, mode: Mode, s: Signal) -> Heard
     ensures { λ r. ⌜ r ≡ heardBy (now (table .entry)) me label mode s ⌝ }
