@@ -135,9 +135,6 @@ of-node : (i : ℕ) (r : Report) → Of i r → (k : ℕ) (b : Book) → reports
 of-node i r (nothing e) k b = subst (λ r. reports (eqb k (nodeOf r)) r b ≡ reports (eqb k i) r b) (sym e) refl
 of-node i r (names e) k b = ap (λ i. reports (eqb k i) r b) e
 
-pub by-node : (j label : ℕ) {x : Reading} (r : Report) → By j label x r → (k : ℕ) (b : Book) → reports (eqb k (nodeOf r)) r b ≡ reports (eqb k j) r b
-by-node j label r x = of-node j r (by-of x)
-
 -- sent, ack and miss by their words: a node that hears reports one of them exactly where it leaves those modes
 abbrev pub conf : ℕ → Bool
 conf w = mem w (W.sent ∷ W.acked ∷ W.miss ∷ [])

@@ -108,7 +108,7 @@ placeOf Holding = holding
 placeOf Spurious = spurious
 placeOf Listening = listening
 
--- "the name of the mode", for the places from Opened to TailAll: it says nothing of good or bad data
+-- request 4: "the name of the mode it left", for the places from Opened to TailAll; it says nothing of good or bad data
 unfoldable pub nameAt : ℕ → Reading
 nameAt p =
     cond (eqb p opened) Rd.Opened
