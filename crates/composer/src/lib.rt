@@ -206,10 +206,10 @@ fn flush(c: Composer, size: usize, out: &mut [u8; 512]) -> Wrote
         };
     }
     let records = c.records;
-    let k = runfile::write_block(out, blocks as u32, c.n, &records[..size]);
-    if k != 0 {
+    let traced = runfile::write_block(out, blocks as u32, c.n, &records[..size]);
+    if traced.refusal != 0 {
         return Wrote {
-            composer: stop(c, Fault::Refused(k)),
+            composer: stop(c, Fault::Refused(traced.refusal)),
             written: false,
         };
     }

@@ -2,11 +2,11 @@
 use mathlib.Core.Path.{_≡_, refl, ap, ap₂, sym, _∙_}
 use mathlib.Core.Bool.{Bool, true, false, cond, not, _&&_}
 use mathlib.Core.List.{List, _∷_, _++_, append-assoc}
-use Prim.Native.Nat.{ℕ, _+_, _*_, _-_, _/_, _<_, _≤_}
+use Prim.Native.Nat.{ℕ, _+_, _*_, _-_, _/_, _%_, _<_, _≤_}
 use native.Mathlib.Omega.{arith}
 use lib.Dec.{eqb}
 use lib.ListN.{length, take, drop, take-append-drop, length-drop}
-use lib.Seq.{slice, take-add, take-all, length-take-le}
+use lib.Seq.{slice, take-add, take-all, take-take, length-take-le}
 use borrow.Author.Tests.{eqb-true}
 use Rattle.charts.specs.Numbers as N
 use Rattle.charts.specs.Valid.{isSize}
@@ -14,10 +14,12 @@ use Rattle.record.specs.Bytes.{little, bound, Bytes}
 use Rattle.record.proofs.Little.{little-value, value-bound}
 use Rattle.record.proofs.Round.{from, take-from, bytes-from}
 use Rattle.runfile.specs.declared.BlockHead.the-variants.{Holds, Refused}
-use Rattle.runfile.specs.Block.{numberIn, countIn, nIn, checkIn, checkSum, checkOf, isCount, zeros, allZero, usedEnd, headOf, countFits, lookedAt, readBlock, usedBytes}
+use Rattle.runfile.specs.Block.{numberIn, countIn, nIn, checkIn, weigh, checkSum, checkOf, isCount, zeros, allZero, usedEnd, headOf, countFits, lookedAt, readBlock, usedBytes}
+use Rattle.runfile.specs.Sums.{sumTo}
 use Rattle.runfile.specs.Write.{headBytes, bodyOf, blockWith}
 use Rattle.runfile.proofs.Loops.{count-small}
 use Rattle.runfile.proofs.Parts.{cut, zero-zeros}
+use Rattle.runfile.proofs.Stored.{body-sum}
 
 -- what an accepted block has shown
 pub record Accepted (s : List ℕ) (number count n : ℕ) : Type 0 where
@@ -137,3 +139,15 @@ module _ (s : List ℕ) (number count n : ℕ) (bytes : Bytes s) (read : readBlo
   pub block-is : s ≡ blockWith number n (usedBytes s)
   unfolding blockWith
   block-is = sym (take-append-drop 510 s) ∙ rw (check-is, body-is)
+
+  -- the sum of the head and the last sum are the check
+  pub check-from-sums : checkIn s ≡ (weigh 0 (take 14 s) + sumTo count (drop 14 s)) % 65521
+  unfolding checkOf
+  check-from-sums =
+      let used = usedBytes s in
+      let size : length used ≤ 496 = omega (arith, few, used-length s number count n read) in
+      let head : take 14 (bodyOf number n used) ≡ take 14 s = ap (take 14) (sym body-is) ∙ take-take 14 510 s (omega arith) in
+      let actions : weigh 14 used ≡ weigh 14 (take (16 * count) (drop 14 s)) = ap (weigh 14) (used-is s number count n read) in
+      let sum = rw head at (body-sum number n used size) in
+      let all : checkIn s ≡ weigh 0 (bodyOf number n used) % 65521 = b .check ∙ ap checkSum body-is in
+      omega (arith, all, sum, actions)

@@ -41,8 +41,8 @@ block-accepted n i l size fits p q all =
     let whole = records-whole l p q in
     let c : length (recordsOf l) / 16 ≡ length l = omega (arith, records-length l) in
     record {
-      accepted = rw c at (reads-back i n (recordsOf l) fits size whole);
-      actions = rw (used-back i n (recordsOf l) fits size whole) (actions-of-records l all);
+      accepted = rw c at (reads-back i n (recordsOf l) whole fits size);
+      actions = rw (used-back i n (recordsOf l) whole fits size) (actions-of-records l all);
     }
 
 -- and no other bytes are

@@ -2,14 +2,14 @@
 use mathlib.Core.Path.{_≡_, refl}
 use mathlib.Core.Bool.{Bool, true, false, _&&_}
 use mathlib.Core.List.{List, [], _∷_}
-use Prim.Native.Nat.{ℕ, suc, _+_, _-_, _/_, _%_, _<_, _≤_}
+use Prim.Native.Nat.{ℕ, suc, _+_, _*_, _/_, _%_, _<_, _≤_}
 use native.Mathlib.Omega.{arith}
 use native.Mathlib.Numerals.{add-one}
 use lib.Dec.{ltb}
 use lib.ListN.{length, take, drop, getD, set, drop-of-length-le}
 use lib.Seq.{slice, slice-cons, length-take-le, drop-cons, sets}
 use borrow.Author.Tests.{ltb-true, eqb-true}
-use Rattle.runfile.specs.Block.{zeros, isCount}
+use Rattle.runfile.specs.Block.{isCount}
 use Rattle.runfile.specs.Write.{isRecords}
 
 -- bytes looked at from place i up to place t
@@ -22,7 +22,7 @@ module _ (s : List ℕ) (i t : ℕ) (fits : t ≤ length s) where
   pub slice-more : i < t → slice i t s ≡ getD s i 0 ∷ slice (i + 1) t s
   slice-more h = rw (slice-cons i t s 0 h fits, add-one i)
 
--- bytes stored, and zeros stored, from place i on
+-- bytes stored from place i on
 pub bytes-more : (out bytes : List ℕ) (at i : ℕ) → i < length bytes
     → sets out (at + i) (drop i bytes) ≡ sets (set out (at + i) (getD bytes i 0)) (at + (i + 1)) (drop (i + 1) bytes)
 bytes-more out bytes at i h =
@@ -31,16 +31,6 @@ bytes-more out bytes at i h =
 
 pub bytes-none : (out bytes : List ℕ) (at i : ℕ) → length bytes ≤ i → sets out (at + i) (drop i bytes) ≡ out
 bytes-none out bytes at i h = rw (drop-of-length-le bytes h)
-
-pub zeros-more : (out : List ℕ) (i to : ℕ) → i < to → sets out i (zeros (to - i)) ≡ sets (set out i 0) (i + 1) (zeros (to - (i + 1)))
-zeros-more out i to h =
-    let w : to - i ≡ suc (to - (i + 1)) = omega arith in
-    rw (w, add-one i)
-
-pub zeros-none : (out : List ℕ) (i to : ℕ) → to ≤ i → sets out i (zeros (to - i)) ≡ out
-zeros-none out i to h =
-    let w : to - i ≡ 0 = omega arith in
-    rw w
 
 -- both of two tests
 pub and-left : (p q : Bool) → (p && q) ≡ true → p ≡ true
@@ -60,5 +50,10 @@ count-small count h =
 pub records-small : (size : ℕ) → isRecords size ≡ true → size ≤ 496
 records-small size h =
     let f = count-small (size / 16) (and-left (isCount (size / 16)) _ h) in
+    let g = eqb-true (size % 16) 0 (and-right (isCount (size / 16)) _ h) in
+    omega arith
+
+pub records-all : (size : ℕ) → isRecords size ≡ true → size ≡ 16 * (size / 16)
+records-all size h =
     let g = eqb-true (size % 16) 0 (and-right (isCount (size / 16)) _ h) in
     omega arith

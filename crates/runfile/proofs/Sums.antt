@@ -6,7 +6,7 @@ use native.Mathlib.Omega.{arith}
 use native.Mathlib.Numerals.{add-one}
 use native.Mathlib.Nat.{add-zero, zero-add, mul-add, add-mul, mul-comm, mul-le-mul, mul-le-mul-right}
 use lib.ListN.{length, take, drop, getD, set, drop-of-length-le, take-append-drop}
-use lib.Seq.{slice, length-slice, drop-cons, take-suc-set, drop-set-lt, take-all, take-take, drop-drop, append-snoc}
+use lib.Seq.{slice, length-slice, length-take-le, drop-cons, take-suc-set, drop-set-lt, take-all, take-take, drop-drop, append-snoc}
 use Rattle.record.specs.Bytes.{Bytes}
 use Rattle.runfile.specs.Block.{weigh, total, plus}
 use Rattle.runfile.proofs.Parts.{cut, bytes-drop, bytes-take}
@@ -32,6 +32,13 @@ weigh-append i (x ∷ a) b =
     let e : i + length (x ∷ a) ≡ i + 1 + length a = omega arith in
     let r = weigh-append (i + 1) a b in
     rw e (omega arith)
+
+-- "Sums and blocks come out the same": bytes cut anywhere into a first part and a rest have the sums of the two, in whichever order they are summed
+pub weigh-cut : (i k : ℕ) (l : List ℕ) → k ≤ length l → weigh i l ≡ weigh (i + k) (drop k l) + weigh i (take k l)
+weigh-cut i k l h =
+    let n : length (take k l) ≡ k = length-take-le k l h in
+    let w = rw (take-append-drop k l, n) at (weigh-append i (take k l) (drop k l)) in
+    omega arith
 
 weigh-plus : (i : ℕ) (a b : List ℕ) → length a ≡ length b → weigh i (plus a b) ≡ weigh i a + weigh i b
 weigh-plus i [] [] h = refl
@@ -80,6 +87,10 @@ part-small s i t b h =
     let m = mul-le-mul n a in
     (a, omega arith)
 
+-- and so have a few bytes that stand in a block before its check
+pub few-small : (i : ℕ) (l : List ℕ) → Bytes l → i + length l ≤ 510 → weigh i l ≤ 510 * (255 * length l)
+few-small i l b h = omega (arith, weigh-small i l, mul-le-mul h (total-small l b))
+
 -- numbers put before others: those are weighed as if they came first, and their total once more for each number before them
 weigh-row : (a b : List ℕ) → weigh 0 (a ++ b) ≡ weigh 0 a + (weigh 0 b + length a * total b)
 weigh-row a b = rw (weigh-append 0 a b, weigh-shift 0 (length a) b)
@@ -106,6 +117,12 @@ slice-front s i k t h f =
 -- numbers from place c on: the first of them, and the rest
 drop-more : (l : List ℕ) (c : ℕ) → c < length l → drop c l ≡ getD l c 0 ∷ drop (c + 1) l
 drop-more l c h = rw (drop-cons l c 0 h, add-one c)
+
+-- bytes summed up to place k of them: the next one, and the rest
+pub weigh-more : (i k : ℕ) (l : List ℕ) → k < length l → weigh (i + k) (drop k l) ≡ getD l k 0 * (i + k + 1) + weigh (i + (k + 1)) (drop (k + 1) l)
+weigh-more i k l h =
+    let e : i + k + 1 ≡ i + (k + 1) = omega arith in
+    rw (drop-more l k h, e)
 
 -- what is left of the columns' sum from column c on: column c, and the rest
 pub column-more : (t u : List ℕ) (c : ℕ) → c < length t → c < length u

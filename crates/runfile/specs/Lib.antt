@@ -1,4 +1,5 @@
 pub mod Block
+pub mod Sums
 pub mod Write
 pub mod File
 pub mod Pieces

@@ -1,9 +1,11 @@
 -- A block of a run file as it is written.
+use mathlib.Core.Path.{_≡_}
 use mathlib.Core.Bool.{Bool, cond, _&&_, not}
 use mathlib.Core.List.{List, [], _∷_, _++_}
 use Prim.Native.Nat.{ℕ, _+_, _-_, _/_, _%_}
 use lib.Dec.{eqb}
 use lib.ListN.{length}
+use lib.Seq.{sets}
 use Rattle.charts.specs.Numbers as N
 use Rattle.charts.specs.Valid.{isSize}
 use Rattle.charts.specs.Records.{read}
@@ -12,7 +14,9 @@ use Rattle.charts.specs.declared.Decoded.{Decoded}
 use Rattle.charts.specs.declared.Decoded.the-variants as D
 use Rattle.record.specs.Bytes.{little}
 use Rattle.record.specs.Layout.{actionsOf, recordsOf}
-use Rattle.runfile.specs.Block.{isCount, zeros, checkSum}
+use Rattle.runfile.specs.declared.Summed.{Summed}
+use Rattle.runfile.specs.Block.{isCount, weigh, zeros, checkSum}
+use Rattle.runfile.specs.Sums.{sumsFor, sumsOf}
 
 -- "then 2 to 6 for each action", and 13 "looked at after 5, by the writer too": the first refusal, or 0
 abbrev pub refusedOr : Decoded → ℕ → ℕ
@@ -57,3 +61,13 @@ blockOf number n l = blockWith number n (recordsOf l)
 -- "A refused write leaves its buffer as it was": what the buffer holds after a write that answered that number
 abbrev pub written : ℕ → List ℕ → List ℕ → List ℕ
 written number old new = cond (eqb number N.accepted) new old
+
+-- request 5: "to return beside the block 31 numbers for tracing"; "0 past the count and when refused": the sums beside such a block
+abbrev pub sumsGiven : ℕ → List ℕ → List ℕ
+sumsGiven number block = cond (eqb number N.accepted) (sumsOf block) (zeros 31)
+
+-- what the writer has when it took all actions: they stand in the block, their bytes are summed, and so are those of the first k
+pub record Takes (before records : List ℕ) (count : ℕ) (r : Summed) (after : List ℕ) : Type 0 where
+  pub stored : after ≡ sets before 14 records
+  pub summed : r .sum ≡ weigh 14 records
+  pub each : r .sums ≡ sumsFor count records

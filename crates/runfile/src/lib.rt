@@ -2,13 +2,15 @@
 pub mod order;
 
 ghost use mathlib.Core.Path.{_≡_};
-ghost use mathlib.Core.Bool.{true, _&&_};
-ghost use Prim.Native.Nat.{_+_, _*_, _-_, _<_, _≤_};
+ghost use mathlib.Core.Bool.{true, cond, _&&_};
+ghost use Prim.Native.Nat.{_+_, _*_, _/_, _<_, _≤_};
+ghost use lib.Dec.{eqb};
 ghost use lib.ListN.{length, take};
 ghost use lib.Seq.{sets, slice};
 ghost use Rattle.charts.specs.Valid.{isSize};
 ghost use Rattle.runfile.specs.Block.{weigh, total, plus, checkOf, isCount, zeros, allZero, countIn, headOf, headFits, countFits, readBlock, blockFits, usedBytes};
-ghost use Rattle.runfile.specs.Write.{firstRefusal, writeNumber, bodyOf, blockWith, written};
+ghost use Rattle.runfile.specs.Sums.{sumsOf};
+ghost use Rattle.runfile.specs.Write.{firstRefusal, isRecords, writeNumber, Takes, blockWith, written, sumsGiven};
 ghost use Rattle.record.specs.Layout.{actionsOf};
 use charts::Decoded;
 use record::decode;
@@ -24,6 +26,8 @@ const WRONG_LENGTH: u8 = 8;
 const WRONG_CHECK: u8 = 9;
 
 const WRONG_COUNT: u8 = 11;
+
+const MODULUS: u32 = 65521;
 
 // What a reading of a block's head gives: "number, count and n, or the refusal".
 pub enum BlockHead {
@@ -101,18 +105,27 @@ fn rows_sum(block: &[u8]) -> u32
     columns(&t, &u)
 }
 
+// The weighed sum of a few bytes, of which the first stands at that place of a block.
+fn weighed(bytes: &[u8], at: u32) -> u32
+    requires { ⌜ at + length (now bytes) ≤ 510 ⌝ }
+    ensures { λ r. ⌜ r ≡ weigh at (now (bytes .entry)) ⌝ }
+    ensures { λ r. ⌜ r ≤ 510 * (255 * length (now (bytes .entry))) ⌝ }
+{
+    let mut sum: u32 = 0;
+    let mut i: usize = 0;
+    while i < bytes.len() {
+        sum += wide(bytes[i]) * (at + i as u32 + 1);
+        i += 1;
+    }
+    sum
+}
+
 // The check of a block. The sum fits 32 bits, so the modulus is taken once.
 fn check_sum(block: &[u8]) -> u32
     requires { ⌜ length (now block) ≡ 512 ⌝ }
     ensures { λ r. ⌜ r ≡ checkOf (now (block .entry)) ⌝ }
 {
-    let mut sum = rows_sum(block);
-    let mut i: u32 = 496;
-    while i < 510 {
-        sum += wide(block[i as usize]) * (i + 1);
-        i += 1;
-    }
-    sum % 65521
+    (rows_sum(block) + weighed(&block[496..510], 496)) % MODULUS
 }
 
 // Whether the bytes from one place up to another are 0.
@@ -209,27 +222,47 @@ pub fn action_bytes(block: &[u8]) -> &[u8]
     &block[14..end]
 }
 
-// The first refusal, by 2 to 6 (13 after 5), of so many action records in order; or 0.
-fn first_refusal(n: u8, records: &[u8], count: usize) -> u8
-    requires { ⌜ 16 * count ≤ length (now records) ⌝ }
-    ensures { λ r. ⌜ r ≡ firstRefusal n (actionsOf count (now (records .entry))) ⌝ }
+// The sums of a block's actions: the k-th is that of the first k, 0 past the count. What 11 refuses has none.
+pub fn action_sums(block: &[u8]) -> [u32; 31]
+    ensures { λ r. ⌜ r ≡ sumsOf (now (block .entry)) ⌝ }
 {
+    let mut sums: [u32; 31] = [0u32; 31];
+    if !count_fits(block) {
+        return sums;
+    }
+    let count = block[4] as usize;
+    let mut sum: u32 = 0;
     let mut k: usize = 0;
     while k < count {
-        let at = 16 * k;
-        let d = decode(n, read_action(&records[at..]));
-        let Decoded::Accepted(_) = d else {
-            return number(d);
-        };
+        let at = 14 + 16 * k;
+        sum += weighed(&block[at..at + 16], at as u32);
+        sums[k] = sum % MODULUS;
         k += 1;
     }
-    0
+    sums
 }
 
-// What the writer answers: it looks at 8, 1, 11, then 2 to 6 (13 after 5) for each action.
-fn write_number(size: usize, n: u8, records: &[u8]) -> u8
-    ensures { λ r. ⌜ r ≡ writeNumber size n (now (records .entry)) ⌝ }
-    ensures { λ r. ⌜ (r ≡ 0 → (size ≡ 512) × (length (now (records .entry)) ≤ 496)) ⌝ }
+// What a write gives beside the block: 0 or the number of its refusal, and the sums of the block's actions.
+pub struct Traced {
+    pub refusal: u8,
+    pub sums: [u32; 31],
+}
+
+// A refused write, without sums.
+fn refused(refusal: u8) -> Traced
+    ensures { λ r. ⌜ r .refusal ≡ refusal ⌝ }
+    ensures { λ r. ⌜ r .sums ≡ zeros 31 ⌝ }
+{
+    Traced {
+        refusal: refusal,
+        sums: [0u32; 31],
+    }
+}
+
+// What the writer looks at before the first action: 8, 1 and 11.
+fn call_number(size: usize, n: u8, records: &[u8]) -> u8
+    ensures { λ r. ⌜ writeNumber size n (now (records .entry)) ≡ cond (eqb r 0) (firstRefusal n (actionsOf (length (now (records .entry)) / 16) (now (records .entry)))) r ⌝ }
+    ensures { λ r. ⌜ (r ≡ 0 → (size ≡ 512) × (isRecords (length (now (records .entry))) ≡ true)) ⌝ }
 {
     if size != 512 {
         return WRONG_LENGTH;
@@ -241,20 +274,7 @@ fn write_number(size: usize, n: u8, records: &[u8]) -> u8
     if !both(is_count(count), records.len() % 16 == 0) {
         return WRONG_COUNT;
     }
-    first_refusal(n, records, count)
-}
-
-// Stores zeros from one place up to another.
-fn store_zeros(out: &mut [u8], from: usize, to: usize)
-    requires { ⌜ from ≤ to ⌝ }
-    requires { ⌜ to ≤ length (now out) ⌝ }
-    ensures { λ _. ⌜ now (out .exit) ≡ sets (now (out .entry)) from (zeros (to - from)) ⌝ }
-{
-    let mut i = from;
-    while i < to {
-        out[i] = 0;
-        i += 1;
-    }
+    0
 }
 
 // Stores bytes at a place.
@@ -269,39 +289,81 @@ fn store_bytes(out: &mut [u8], at: usize, bytes: &[u8])
     }
 }
 
-// Stores the first 510 bytes of a block.
-fn store_body(out: &mut [u8], number: u32, n: u8, records: &[u8])
-    requires { ⌜ length (now out) ≡ 512 ⌝ }
-    requires { ⌜ length (now records) ≤ 496 ⌝ }
-    ensures { λ _. ⌜ now (out .exit) ≡ sets (now (out .entry)) 0 (bodyOf number n (now (records .entry))) ⌝ }
-{
-    put_little(out, 0, 4, number);
-    out[4] = (records.len() / 16) as u8;
-    out[5] = n;
-    store_zeros(out, 6, 14);
-    store_bytes(out, 14, records);
-    store_zeros(out, 14 + records.len(), 510);
+// What the actions of a block give when they are taken: 0 or the number of the first refusal, the sum of all their bytes, and the sums of the first k.
+struct Summed {
+    refusal: u8,
+    sum: u32,
+    sums: [u32; 31],
 }
 
-// Stores a block.
-fn store_block(out: &mut [u8], number: u32, n: u8, records: &[u8])
-    requires { ⌜ length (now out) ≡ 512 ⌝ }
-    requires { ⌜ length (now records) ≤ 496 ⌝ }
-    ensures { λ _. ⌜ now (out .exit) ≡ blockWith number n (now (records .entry)) ⌝ }
+// Takes so many action records in order, up to the first refusal: each is looked at by 2 to 6 (13 after 5), stored from byte 14 on, and summed.
+fn take_actions(block: &mut [u8], n: u8, records: &[u8], count: usize) -> Summed
+    requires { ⌜ length (now block) ≡ 512 ⌝ }
+    requires { ⌜ (count ≤ 31) × (length (now records) ≡ 16 * count) ⌝ }
+    ensures { λ r. ⌜ r .refusal ≡ firstRefusal n (actionsOf count (now (records .entry))) ⌝ }
+    ensures { λ r. ⌜ (r .refusal ≡ 0 → Takes (now (block .entry)) (now (records .entry)) count r (now (block .exit))) ⌝ }
 {
-    store_body(out, number, n, records);
-    let sum = check_sum(out);
-    put_little(out, 510, 2, sum);
-}
-
-// Writes a block of the action records whose bytes are given, and answers 0; or answers the number of its refusal and leaves the buffer as it was.
-pub fn write_block(out: &mut [u8], number: u32, n: u8, records: &[u8]) -> u8
-    ensures { λ r. ⌜ r ≡ writeNumber (length (now (out .entry))) n (now (records .entry)) ⌝ }
-    ensures { λ r. ⌜ now (out .exit) ≡ written r (now (out .entry)) (blockWith number n (now (records .entry))) ⌝ }
-{
-    let refusal = write_number(out.len(), n, records);
-    if refusal == 0 {
-        store_block(out, number, n, records);
+    let mut sums: [u32; 31] = [0u32; 31];
+    let mut sum: u32 = 0;
+    let mut k: usize = 0;
+    while k < count {
+        let from = 16 * k;
+        let d = decode(n, read_action(&records[from..]));
+        let Decoded::Accepted(_) = d else {
+            return Summed {
+                refusal: number(d),
+                sum: 0,
+                sums: [0u32; 31],
+            };
+        };
+        store_bytes(block, 14 + from, &records[from..from + 16]);
+        sum += weighed(&records[from..from + 16], (14 + from) as u32);
+        sums[k] = sum % MODULUS;
+        k += 1;
     }
-    refusal
+    Summed {
+        refusal: 0,
+        sum: sum,
+        sums: sums,
+    }
+}
+
+// Stores the head of a block in which nothing but its actions stands, whose sum is given. The head is summed last, and the check follows from the two sums.
+fn store_head(block: &mut [u8], number: u32, n: u8, records: &[u8], sum: u32)
+    requires { ⌜ length (now block) ≡ 512 ⌝ }
+    requires { ⌜ now block ≡ sets (zeros 512) 14 (now records) ⌝ }
+    requires { ⌜ length (now records) ≤ 496 ⌝ }
+    requires { ⌜ sum ≡ weigh 14 (now records) ⌝ }
+    ensures { λ _. ⌜ now (block .exit) ≡ blockWith number n (now (records .entry)) ⌝ }
+{
+    put_little(block, 0, 4, number);
+    block[4] = (records.len() / 16) as u8;
+    block[5] = n;
+    let head = weighed(&block[0..14], 0);
+    put_little(block, 510, 2, (sum + head) % MODULUS);
+}
+
+// Writes a block of the action records whose bytes are given; or refuses, and leaves the lent buffer as it was.
+// The actions are gone through once and their count is needed last, so the block is put together in 512 bytes of its own. They go into the buffer when nothing is left that could be refused.
+pub fn write_block(out: &mut [u8], number: u32, n: u8, records: &[u8]) -> Traced
+    ensures { λ r. ⌜ r .refusal ≡ writeNumber (length (now (out .entry))) n (now (records .entry)) ⌝ }
+    ensures { λ r. ⌜ now (out .exit) ≡ written (r .refusal) (now (out .entry)) (blockWith number n (now (records .entry))) ⌝ }
+    ensures { λ r. ⌜ r .sums ≡ sumsGiven (r .refusal) (blockWith number n (now (records .entry))) ⌝ }
+{
+    let refusal = call_number(out.len(), n, records);
+    if refusal != 0 {
+        return refused(refusal);
+    }
+    let mut block: [u8; 512] = [0u8; 512];
+    let taken = take_actions(&mut block, n, records, records.len() / 16);
+    if taken.refusal != 0 {
+        return refused(taken.refusal);
+    }
+    store_head(&mut block, number, n, records, taken.sum);
+    store_bytes(out, 0, &block);
+    let sums = taken.sums;
+    Traced {
+        refusal: 0,
+        sums: sums,
+    }
 }

@@ -35,7 +35,12 @@ stop-requires-2 c κs = search needs
 
 returns-2 : tie.Need-returns-2
 unfolding flushOf heldAfter
-returns-2 c = let len : length (c .before .before .before .before .before .before .before .args .out .now) ≡ 512 = search needs in let w = rw len at (c .before .before .write-block .ensures .0) in let h = lt-ltb _ _ (c .before .before .before .before .before .before .if1 .left) in (simp (h, ← w, ne-eqb _ _ (c .before .if2 .taken), c .stop2 .ensures), rw (ne-eqb _ _ (c .before .if2 .taken)) at (c .before .before .write-block .ensures .1))
+returns-2 c =
+    let len : length (c .before .before .before .before .before .before .before .before .args .out .now) ≡ 512 = search needs in
+    let w = rw len at (c .before .before .before .write-block .ensures .0) in
+    let h = lt-ltb _ _ (c .before .before .before .before .before .before .before .if1 .left) in
+    let k = ne-eqb _ _ (c .before .if2 .taken) in
+    (simp (h, ← w, k, c .stop2 .ensures), rw k at (c .before .before .before .write-block .ensures .1 .0))
 
 add-with-block : tie.Need-add-with-block
 add-with-block c = search needs
@@ -45,7 +50,12 @@ with-block-requires c κs = search needs
 
 returns-3 : tie.Need-returns-3
 unfolding flushOf heldAfter
-returns-3 c = let len : length (c .before .before .before .before .before .before .before .args .out .now) ≡ 512 = search needs in let w = rw len at (c .before .before .write-block .ensures .0) in let h = lt-ltb _ _ (c .before .before .before .before .before .before .if1 .left) in (simp (h, ← w, eq-eqb _ _ (c .before .if2 .left), c .with-block .ensures), rw (eq-eqb _ _ (c .before .if2 .left)) at (c .before .before .write-block .ensures .1))
+returns-3 c =
+    let len : length (c .before .before .before .before .before .before .before .before .args .out .now) ≡ 512 = search needs in
+    let w = rw len at (c .before .before .before .write-block .ensures .0) in
+    let h = lt-ltb _ _ (c .before .before .before .before .before .before .before .if1 .left) in
+    let k = eq-eqb _ _ (c .before .if2 .left) in
+    (simp (h, ← w, k, c .with-block .ensures), rw k at (c .before .before .before .write-block .ensures .1 .0))
 
 pub flush-spec : {M : Type 1} → statement M
 flush-spec =
