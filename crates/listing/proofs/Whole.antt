@@ -18,27 +18,14 @@ use Rattle.composer.specs.Composed.{composed}
 use Rattle.composer.proofs.Whole.{composes}
 use Rattle.walk.specs.Walk.{walking}
 use Rattle.walk.specs.Feeding.{fedText}
-use Rattle.walk.proofs.Whole as W
+use Rattle.walk.proofs.Nodes.{whole as walk-whole}
 use Rattle.walk.proofs.Files.{file-walked}
 use Rattle.listing.specs.Listed.{naming, listed, started}
-
-abbrev Any : ℕ → Type 0
-Any n = Unit {0}
-
-does : W.Does Any naming naming
-does = record {
-  same-done = λ i. refl;
-  same-opening = λ n z. refl;
-  opening-good = λ n z. tt;
-  opening-nodes = λ n z. refl;
-  same-turn = λ i a n g. refl;
-  turn-good = λ i a n g. tt;
-  turn-nodes = λ i a n g. refl;
-}
+use Rattle.listing.proofs.Turns.{naming-n}
 
 -- the pieces of any file, fed one after the other, and then the file's end, give exactly the text of the file
 pub whole : (bytes : List ℕ) → fedText naming (pieces bytes) started ≡ listed bytes
-whole bytes = W.whole does 0 bytes
+whole = walk-whole naming-n
 
 -- actions that the writer takes for n nodes are accepted one by one
 accepted-by : (n : ℕ) (l : List Action) → AllFit l → firstRefusal n l ≡ N.accepted → AllAccepted n l
@@ -58,7 +45,7 @@ lines-are n i (a ∷ l) g = rw (g .0 .reads, lines-are n (suc i) l (g .1))
 pub file-listed : (n : ℕ) (l : List Action) (bytes : List ℕ) → Taken n l → IsFile n l bytes → listed bytes ≡ textOf n l
 unfolding textOf
 file-listed n l bytes t f =
-    file-walked naming n l bytes f ∙ rw (lines-are n 0 l (accepted-by n l (t .fits) (t .accepted)))
+    file-walked naming (λ first number count n b. refl) n l bytes f ∙ rw (lines-are n 0 l (accepted-by n l (t .fits) (t .accepted)))
 
 pub listed-text : (n : ℕ) (l : List Action) → Taken n l → listed (fileOf n l) ≡ textOf n l
 listed-text n l t = file-listed n l (fileOf n l) t (one-file n l t .is-file)

@@ -8,7 +8,7 @@ use Rattle.record.specs.Looked.{numberOf}
 use Rattle.runfile.specs.declared.order.Stage.the-variants.{Unopened}
 use Rattle.transcript.specs.Printed.{actionLine}
 use Rattle.transcript.specs.Room.{Puts}
-use Rattle.walk.specs.Walk.{Turn, Walker, walked}
+use Rattle.walk.specs.Walk.{Turn, Walker, nodesOnce, walked}
 use Rattle.walk.specs.Feeding.{Walking, Part}
 use Rattle.listing.specs.declared.Listing.{Listing}
 use Rattle.listing.specs.declared.block.Part as put
@@ -20,6 +20,7 @@ turn a n = record { number = numberOf (read n a); line = actionLine a; state = n
 -- "one line for each action"; "A refused block or action ends the listing with the line that `play` prints for it"; nothing stands at the end
 abbrev pub naming : Walker ℕ
 naming = record {
+  heading = λ first number count n b. nodesOnce first n;
   opening = λ n. n;
   nodes = λ n. n;
   turn = λ i a n. turn a n;

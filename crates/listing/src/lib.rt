@@ -58,7 +58,8 @@ pub fn feed(l: Listing, piece: &[u8], out: &mut [u8; 2048]) -> Fed
             ended: true,
         };
     };
-    let part = block::put_actions(n, piece, count, order::accepted_by(stage), out, entered.end);
+    let at = walk::put_nodes_once(stage, n, out);
+    let part = block::put_actions(n, piece, count, order::accepted_by(stage), out, at);
     Fed {
         listing: Listing {
             n: n,
@@ -72,8 +73,8 @@ pub fn feed(l: Listing, piece: &[u8], out: &mut [u8; 2048]) -> Fed
 // The file's end. Its text stands at the start of `out`; the answer is its length.
 pub fn finish(l: Listing, out: &mut [u8; 2048]) -> usize
     ensures { λ r. ⌜ r ≤ 2048 ⌝ }
-    ensures { λ r. ⌜ r ≡ length (finishOf naming (l .stage)) ⌝ }
-    ensures { λ _. ⌜ now (out .exit) ≡ put (now (out .entry)) 0 (finishOf naming (l .stage)) ⌝ }
+    ensures { λ r. ⌜ r ≡ length (finishOf (naming .done) (l .stage)) ⌝ }
+    ensures { λ _. ⌜ now (out .exit) ≡ put (now (out .entry)) 0 (finishOf (naming .done) (l .stage)) ⌝ }
 {
     let stage = l.stage;
     match stage {

@@ -28,6 +28,7 @@ fresh-good n z =
 -- the functions of crate `bus` do what the charts do: every state that a file leads to is valid
 does : W.Does Valid playing advancing
 does = record {
+  same-heading = λ first number count n b. refl;
   same-done = λ i. refl;
   same-opening = λ n z. ap (λ r. r .state) (begin-fresh n z);
   opening-good = fresh-good;

@@ -10,7 +10,7 @@ use Rattle.bus.specs.Advance.{advanceOf}
 use Rattle.runfile.specs.declared.order.Stage.the-variants.{Unopened}
 use Rattle.transcript.specs.Lines.{doneLine}
 use Rattle.transcript.specs.Room.{Puts}
-use Rattle.walk.specs.Walk.{Walker}
+use Rattle.walk.specs.Walk.{Walker, nodesOnce}
 use Rattle.walk.specs.Feeding as F
 use Rattle.walk.specs.Feeding.{Walking}
 use Rattle.player.specs.Printed.{turn}
@@ -25,6 +25,7 @@ seen p = record { state = view (p .bus); stage = p .stage }
 -- the walk with the functions of crate `bus`: the fresh bus that it gives, and `advance`, which is the charts' step where the state is valid
 abbrev pub advancing : Walker State
 advancing = record {
+  heading = λ first number count n b. nodesOnce first n;
   opening = λ n. begin n .state;
   nodes = λ s. s .n;
   turn = λ i a s. turn i (a .kind) (advanceOf s a);

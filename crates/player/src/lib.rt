@@ -4,6 +4,7 @@ mod block;
 ghost use mathlib.Core.Path.{_≡_};
 ghost use Prim.Native.Nat.{_≤_};
 ghost use lib.ListN.{length};
+ghost use Rattle.transcript.specs.Lines.{doneLine};
 ghost use Rattle.transcript.specs.Room.{put};
 ghost use Rattle.runfile.specs.Order.{isEnded};
 ghost use Rattle.walk.specs.Feeding.{feedOf, finishOf};
@@ -12,8 +13,6 @@ use charts::Bus;
 use runfile::order;
 use runfile::order::Stage;
 use walk::Found;
-
-const WRONG_LENGTH: u8 = 8;
 
 // The player between two pieces: the bus, and how far the file has been played.
 pub struct Player {
@@ -62,13 +61,14 @@ pub fn feed(p: Player, piece: &[u8], out: &mut [u8; 2048]) -> Fed
             ended: true,
         };
     };
+    let at = walk::put_nodes_once(stage, n, out);
     let part = block::play_actions(
         block::opening(stage, bus, n),
         piece,
         count,
         order::accepted_by(stage),
         out,
-        entered.end,
+        at,
     );
     let after = part.bus;
     Fed {
@@ -84,16 +84,9 @@ pub fn feed(p: Player, piece: &[u8], out: &mut [u8; 2048]) -> Fed
 // The file's end. Its text stands at the start of `out`; the answer is its length.
 pub fn finish(p: Player, out: &mut [u8; 2048]) -> usize
     ensures { λ r. ⌜ r ≤ 2048 ⌝ }
-    ensures { λ r. ⌜ r ≡ length (finishOf advancing (p .stage)) ⌝ }
-    ensures { λ _. ⌜ now (out .exit) ≡ put (now (out .entry)) 0 (finishOf advancing (p .stage)) ⌝ }
+    ensures { λ r. ⌜ r ≡ length (finishOf doneLine (p .stage)) ⌝ }
+    ensures { λ _. ⌜ now (out .exit) ≡ put (now (out .entry)) 0 (finishOf doneLine (p .stage)) ⌝ }
 {
     let stage = p.stage;
-    match stage {
-        Stage::Unopened => transcript::put_refused(out, 0, 0, WRONG_LENGTH),
-        Stage::After {
-            number: _,
-            count: _,
-        } => transcript::put_done(out, 0, order::accepted_by(stage)),
-        Stage::Ended => 0,
-    }
+    walk::put_end(stage, out)
 }

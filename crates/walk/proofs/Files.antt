@@ -1,5 +1,6 @@
 -- A walk over a file of a list of actions prints the text of that list. Assumes nothing.
 use mathlib.Core.Path.{_≡_, refl, sym, ap, _∙_}
+use mathlib.Core.Bool.{Bool}
 use mathlib.Core.List.{List, [], _∷_, _++_}
 use Prim.Native.Nat.{ℕ, suc}
 use borrow.Author.Tests.{eq-eqb}
@@ -15,9 +16,9 @@ use Rattle.runfile.proofs.Accepted.{shown}
 use Rattle.runfile.proofs.Parts.{bytes-first, bytes-second}
 use Rattle.runfile.proofs.Pieces.{more-pieces, one-piece}
 use Rattle.runfile.proofs.Stages.{At, found}
-use Rattle.walk.specs.Walk.{Walker, turned, walking, headed, opened, blockWalked, walkedFrom, walked, listWalked}
+use Rattle.walk.specs.Walk.{Walker, turned, walking, nodesOnce, opened, blockWalked, walkedFrom, walked, listWalked}
 
-module _ {S : Type 0} (w : Walker S) where
+module _ {S : Type 0} (w : Walker S) (nodes-alone : (first : Bool) (number count n : ℕ) (b : List ℕ) → w .heading first number count n b ≡ nodesOnce first n) where
   -- the text of actions depends on what follows them by its values alone; that of two lists is that of one after the other
   same-later : (l : List Action) (s : S) (i : ℕ) (f g : S → ℕ → List ℕ) → ((t : S) (j : ℕ) → f t j ≡ g t j) → walking w l s i f ≡ walking w l s i g
   same-later [] s i f g e = e s i
@@ -31,24 +32,24 @@ module _ {S : Type 0} (w : Walker S) where
   later p n l = record { blocks = suc (p .blocks); full = eqb (length l) 31; n = n }
 
   block-text : (n i : ℕ) (l : List Action) (s : List ℕ) → Bytes s → IsBlock n i l s → (p : Before) → At p n i → (st : S) (c : ℕ) (f : Before → S → ℕ → List ℕ)
-      → blockWalked w s p st c (lookedAt p s (headOf s)) f ≡ headed p n ++ walking w l (opened w p n st) c (f (later p n l))
-  block-text n i l s bytes b p at st c f = let here = found n i l s bytes b p at in rw (here .head, here .actions)
+      → blockWalked w s p st c (lookedAt p s (headOf s)) f ≡ nodesOnce (isFirst p) n ++ walking w l (opened w p n st) c (f (later p n l))
+  block-text n i l s bytes b p at st c f = let here = found n i l s bytes b p at in rw (here .head, here .actions, nodes-alone)
 
   -- the text of the blocks of a file from block i on
   blocks-text : {n i : ℕ} {l : List Action} {s : List ℕ} → Bytes s → Blocks n i l s → (p : Before) → At p n i → (st : S) (c : ℕ)
-      → walkedFrom w (pieces s) p st c ≡ headed p n ++ walking w l (opened w p n st) c (λ t j. w .done j)
+      → walkedFrom w (pieces s) p st c ≡ nodesOnce (isFirst p) n ++ walking w l (opened w p n st) c (λ t j. w .done j)
   blocks-text {n} {i} {l} {s} bytes (last b) p at st c =
       let size = shown s i (length l) n (b .accepted) .size in
       rw (one-piece s size)
       (block-text n i l s bytes b p at st c (walkedFrom w [])
-      ∙ ap (λ (t : List ℕ). headed p n ++ t) (same-later l (opened w p n st) c _ _ (λ t j. rw (eqb·suc-zero (p .blocks)))))
+      ∙ ap (λ (t : List ℕ). nodesOnce (isFirst p) n ++ t) (same-later l (opened w p n st) c _ _ (λ t j. rw (eqb·suc-zero (p .blocks)))))
   blocks-text {n} {i} bytes (next {l = l} {m} {s} {t} b full rest) p at st c =
       let size = shown s i (length l) n (b .accepted) .size in
       let q = later p n l in
       let there : At q n (suc i) = record { blocks-before = ap suc (at .blocks-before); all-full = eq-eqb (length l) 31 full; same-n = rw (eq-eqb n n refl) (or-yes (isFirst q)) } in
       rw (more-pieces s t size)
       (block-text n i l s (bytes-first s t bytes) b p at st c (walkedFrom w (pieces t))
-      ∙ ap (λ (t : List ℕ). headed p n ++ t)
+      ∙ ap (λ (t : List ℕ). nodesOnce (isFirst p) n ++ t)
       (same-later l (opened w p n st) c (walkedFrom w (pieces t) q) (λ u j. walking w m u j (λ v k. w .done k)) (λ u j. blocks-text (bytes-second s t bytes) rest q there u j ∙ rw (eqb·suc-zero (p .blocks)))
       ∙ sym (one-after-other l m (opened w p n st) c (λ u j. w .done j))))
 

@@ -1,4 +1,5 @@
 pub mod Loop
 pub mod Fed
 pub mod Whole
+pub mod Nodes
 pub mod Files

@@ -15,14 +15,15 @@ use Rattle.runfile.specs.declared.order.Stage.{Stage}
 use Rattle.runfile.specs.declared.order.Stage.the-variants.{Unopened, After, Ended}
 use Rattle.runfile.specs.Block.{headOf}
 use Rattle.runfile.specs.Order.{isEnded, acceptedBy, lookOf, stageAfter}
-use Rattle.runfile.specs.Pieces.{pieces, Before, none, follows, lookedAt, actionsIn}
+use Rattle.runfile.specs.Pieces.{pieces, Before, none, isFirst, follows, lookedAt, actionsIn}
 use Rattle.runfile.proofs.Stages.{before, same-look, Passed, passed, next, counted}
 use Rattle.transcript.specs.Lines.{refusedLine}
-use Rattle.walk.specs.Walk.{isTaken, Walker, walking, headed, opened, blockWalked, walkedFrom, walked}
-use Rattle.walk.specs.Feeding.{headingOf, openingOf, foundBy, textBy, foundIn, foundText, Part, lineThen, partOf, foundGives, feedOf, finishOf, fedText}
+use Rattle.walk.specs.Walk.{isTaken, Walker, walking, opened, blockWalked, walkedFrom, walked}
+use Rattle.walk.specs.Feeding.{isUnopened, openingOf, foundBy, textBy, foundIn, foundText, Part, lineThen, partOf, foundGives, feedOf, finishOf, fedText}
 
 -- a walk v that does what w does, in every state that some block 0 and the actions after it can lead to
 pub record Does {S : Type 0} (Good : S → Type 0) (w v : Walker S) : Type 0 where
+  pub same-heading : (first : Bool) (number count n : ℕ) (b : List ℕ) → v .heading first number count n b ≡ w .heading first number count n b
   pub same-done : (i : ℕ) → v .done i ≡ w .done i
   pub same-opening : (n : ℕ) → isSize n ≡ true → v .opening n ≡ w .opening n
   pub opening-good : (n : ℕ) → isSize n ≡ true → Good (w .opening n)
@@ -85,9 +86,9 @@ module _ {S : Type 0} {Good : S → Type 0} {w v : Walker S} (does : Does Good w
   Fine (After i c) s = Good s
   Fine Ended s = Unit {0}
 
-  -- the same heading, and the same state to begin with, which is good and has the block's n
+  -- block 0 or not, in both; and the same state to begin with, which is good and has the block's n
   record Opens (g : Stage) (s : S) (n : ℕ) : Type 0 where
-    heading-is : headingOf g n ≡ headed (before g (v .nodes s)) n
+    first-is : isUnopened g ≡ isFirst (before g (v .nodes s))
     opening-is : openingOf v g n s ≡ opened w (before g (v .nodes s)) n s
     opens-good : Good (openingOf v g n s)
     opens-nodes : v .nodes (openingOf v g n s) ≡ n
@@ -96,13 +97,13 @@ module _ {S : Type 0} {Good : S → Type 0} {w v : Walker S} (does : Does Good w
   opens Unopened s number n k good f z =
       let e = does .same-opening n z in
       record {
-        heading-is = refl;
+        first-is = refl;
         opening-is = e;
         opens-good = rw e (does .opening-good n z);
         opens-nodes = rw e (does .opening-nodes n z);
       }
   opens (After i c) s number n k good f z =
-      record { heading-is = rw (eqb·suc-zero i); opening-is = rw (eqb·suc-zero i); opens-good = good; opens-nodes = sym (next i c (v .nodes s) number n f .same-n) }
+      record { first-is = rw (eqb·suc-zero i); opening-is = rw (eqb·suc-zero i); opens-good = good; opens-nodes = sym (next i c (v .nodes s) number n f .same-n) }
   opens Ended s number n k good f z = never (sym k)
 
   -- a block and what follows it
@@ -128,10 +129,12 @@ module _ {S : Type 0} {Good : S → Type 0} {w v : Walker S} (does : Does Good w
         let later : Before = record { blocks = suc (before g m .blocks); full = eqb count 31; n = n } in
         let same : before (After number count) (v .nodes (p .state)) ≡ later = rw (q .the-next, kept .as-many ∙ o .opens-nodes) in
         let follow = ends p number count later (acceptedBy g + length acts) (kept .still-good) same (sym (q .in-all)) in
-        append-assoc (headingOf g n) (p .text) _
-        ∙ rw (← o .opening-is, ← o .heading-is)
-        (ap (λ (t : List ℕ). headingOf g n ++ t)
-        (ap (λ (t : List ℕ). p .text ++ t) follow ∙ sym (played acts (openingOf v g n s) (acceptedBy g) (walkedFrom w l later) (o .opens-good))))
+        let heading = w .heading (isUnopened g) number count n b in
+        rw (does .same-heading (isUnopened g) number count n b)
+        (append-assoc heading (p .text) _
+        ∙ rw (← o .opening-is, ← o .first-is)
+        (ap (λ (t : List ℕ). heading ++ t)
+        (ap (λ (t : List ℕ). p .text ++ t) follow ∙ sym (played acts (openingOf v g n s) (acceptedBy g) (walkedFrom w l later) (o .opens-good)))))
 
   fed : (l : List (List ℕ)) (g : Stage) (s : S) → isEnded g ≡ false → Fine g s → fedText v l (record { state = s; stage = g }) ≡ walkedFrom w l (before g (v .nodes s)) s (acceptedBy g)
   unfolding feedOf foundIn foundText lookOf finishOf

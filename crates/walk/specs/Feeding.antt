@@ -12,7 +12,7 @@ use Rattle.runfile.specs.declared.order.Stage.{Stage}
 use Rattle.runfile.specs.declared.order.Stage.the-variants.{Unopened, After, Ended}
 use Rattle.runfile.specs.Order.{isEnded, acceptedBy, lookOf, stageAfter}
 use Rattle.runfile.specs.Pieces.{actionsIn}
-use Rattle.transcript.specs.Lines.{nodesLine, refusedLine}
+use Rattle.transcript.specs.Lines.{refusedLine}
 use Rattle.walk.specs.declared.Found.{Found}
 use Rattle.walk.specs.declared.Found.the-variants.{Nothing, Block}
 use Rattle.walk.specs.Walk.{Turn, isTaken, Walker}
@@ -22,25 +22,25 @@ pub record Walking (S : Type 0) : Type 0 where
   pub state : S
   pub stage : Stage
 
--- block 0 prints `nodes` and has a state of its own
-abbrev pub headingOf : Stage → ℕ → List ℕ
-headingOf Unopened n = nodesLine n
-headingOf (After i c) n = []
-headingOf Ended n = []
+-- block 0 has a state of its own
+abbrev pub isUnopened : Stage → Bool
+isUnopened Unopened = true
+isUnopened (After i c) = false
+isUnopened Ended = false
 
 abbrev pub openingOf : {S : Type 0} → Walker S → Stage → ℕ → S → S
 openingOf w Unopened n s = w .opening n
 openingOf w (After i c) n s = s
 openingOf w Ended n s = s
 
--- what is found in a piece of a file, and what is printed before its actions; "A refusal […] ends the output": after one nothing is found
+-- what is found in a piece of a file, and what is printed where nothing is; "A refusal […] ends the output": after one nothing is found
 abbrev pub foundBy : BlockHead → Found
 foundBy (Refused k) = Nothing
 foundBy (Holds number count n) = Block number count n
 
 abbrev pub textBy : Stage → BlockHead → List ℕ
 textBy g (Refused k) = refusedLine (acceptedBy g) k
-textBy g (Holds number count n) = headingOf g n
+textBy g (Holds number count n) = []
 
 unfoldable pub foundIn : Stage → ℕ → List ℕ → Found
 foundIn g m piece = cond (isEnded g) Nothing (foundBy (lookOf g m piece))
@@ -83,19 +83,19 @@ partGives t number count p =
 abbrev pub foundGives : {S : Type 0} → Walker S → Stage → S → List ℕ → List ℕ → Found → Gives S
 foundGives w g s piece t Nothing = record { text = t; after = record { state = s; stage = Ended } }
 foundGives w g s piece t (Block number count n) =
-    partGives t number count (partOf w (actionsIn count piece) (openingOf w g n s) (acceptedBy g))
+    partGives (w .heading (isUnopened g) number count n piece) number count (partOf w (actionsIn count piece) (openingOf w g n s) (acceptedBy g))
 
 unfoldable pub feedOf : {S : Type 0} → Walker S → Walking S → List ℕ → Gives S
 feedOf w p piece =
     foundGives w (p .stage) (p .state) piece (foundText (p .stage) (w .nodes (p .state)) piece) (foundIn (p .stage) (w .nodes (p .state)) piece)
 
--- the text at the file's end; "an empty file" is 8
-unfoldable pub finishOf : {S : Type 0} → Walker S → Stage → List ℕ
-finishOf w Unopened = refusedLine 0 N.wrong-length
-finishOf w (After i c) = w .done (acceptedBy (After i c))
-finishOf w Ended = []
+-- the text at the file's end, by what is printed of the count of all actions; "an empty file" is 8
+unfoldable pub finishOf : (ℕ → List ℕ) → Stage → List ℕ
+finishOf done Unopened = refusedLine 0 N.wrong-length
+finishOf done (After i c) = done (acceptedBy (After i c))
+finishOf done Ended = []
 
 -- what is printed of pieces fed one after the other, and then of the file's end
 abbrev pub fedText : {S : Type 0} → Walker S → List (List ℕ) → Walking S → List ℕ
-fedText w [] p = finishOf w (p .stage)
+fedText w [] p = finishOf (w .done) (p .stage)
 fedText w (b ∷ l) p = feedOf w p b .text ++ fedText w l (feedOf w p b .after)

@@ -20,9 +20,11 @@ pub record Turn (S : Type 0) : Type 0 where
 abbrev pub isTaken : {S : Type 0} → Turn S → Bool
 isTaken t = eqb (t .number) N.accepted
 
--- what is done with a file: the state that block 0's actions find, by its n, and the n of a state; the turn of an action, by its index and a state;
+-- what is done with a file: what is printed once a block is accepted, before its actions, by whether it is block 0, its number, count and n, and its bytes;
+-- the state that block 0's actions find, by its n, and the n of a state; the turn of an action, by its index and a state;
 -- what is printed at the file's end, by the count of all actions
 pub record Walker (S : Type 0) : Type 0 where
+  pub heading : Bool → ℕ → ℕ → ℕ → List ℕ → List ℕ
   pub opening : ℕ → S
   pub nodes : S → ℕ
   pub turn : ℕ → Action → S → Turn S
@@ -37,10 +39,11 @@ abbrev pub walking : {S : Type 0} → Walker S → List Action → S → ℕ →
 walking w [] s i later = later s i
 walking w (a ∷ l) s i later = turned i (w .turn i a s) (walking w l (w .turn i a s .state) (suc i) later)
 
--- "`nodes` is printed once block 0 is accepted"; the state that a block's actions find: block 0's own, or that which the block before left
-abbrev pub headed : Before → ℕ → List ℕ
-headed p n = cond (isFirst p) (nodesLine n) []
+-- "`nodes` is printed once block 0 is accepted"
+abbrev pub nodesOnce : Bool → ℕ → List ℕ
+nodesOnce first n = cond first (nodesLine n) []
 
+-- the state that a block's actions find: block 0's own, or that which the block before left
 abbrev pub opened : {S : Type 0} → Walker S → Before → ℕ → S → S
 opened w p n s = cond (isFirst p) (w .opening n) s
 
@@ -48,7 +51,7 @@ opened w p n s = cond (isFirst p) (w .opening n) s
 abbrev pub blockWalked : {S : Type 0} → Walker S → List ℕ → Before → S → ℕ → BlockHead → (Before → S → ℕ → List ℕ) → List ℕ
 blockWalked w b p s i (Refused k) later = refusedLine i k
 blockWalked w b p s i (Holds number count n) later =
-    headed p n
+    w .heading (isFirst p) number count n b
     ++ walking w (actionsIn count b) (opened w p n s) i (later (record { blocks = suc (p .blocks); full = eqb count 31; n = n }))
 
 -- the text of blocks one after the other, i actions having been accepted before them; "an empty file" is 8
@@ -60,6 +63,6 @@ walkedFrom w (b ∷ l) p s i = blockWalked w b p s i (lookedAt p b (headOf b)) (
 abbrev pub walked : {S : Type 0} → Walker S → List ℕ → List ℕ
 walked w bytes = walkedFrom w (pieces bytes) none (w .opening 0) 0
 
--- the text of a list of actions for n nodes; it is that of every file of the list (proofs/Files.antt)
+-- the text of a list of actions for n nodes, where `nodes` is all that is printed before actions; it is that of every file of the list (proofs/Files.antt)
 abbrev pub listWalked : {S : Type 0} → Walker S → ℕ → List Action → List ℕ
 listWalked w n l = nodesLine n ++ walking w l (w .opening n) 0 (λ s i. w .done i)

@@ -1,12 +1,17 @@
 // A run file walked from block to block and from action to action: the text that comes of it, whatever is done with each action.
-// `player` and `listing` are the walks; here is what they have in common.
+// `player`, `listing` and `summing` are the walks; here is what they have in common.
 ghost use mathlib.Core.Path.{_≡_};
 ghost use Prim.Native.Nat.{_≤_};
-ghost use Rattle.transcript.specs.Room.{Puts};
-ghost use Rattle.walk.specs.Feeding.{headingOf, foundIn, foundText, foundFits};
+ghost use lib.ListN.{length};
+ghost use Rattle.transcript.specs.Lines.{doneLine};
+ghost use Rattle.transcript.specs.Room.{put, Puts};
+ghost use Rattle.walk.specs.Walk.{nodesOnce};
+ghost use Rattle.walk.specs.Feeding.{isUnopened, foundIn, foundText, foundFits, finishOf};
 use runfile::BlockHead;
 use runfile::order;
 use runfile::order::Stage;
+
+const WRONG_LENGTH: u8 = 8;
 
 // What is found in a piece of a file: the next block, or nothing, because it is refused or comes after a refusal.
 pub enum Found {
@@ -20,10 +25,10 @@ pub struct Entered {
     pub end: usize,
 }
 
-// "`nodes` is printed once block 0 is accepted"
-fn put_heading(stage: Stage, n: u8, out: &mut [u8; 2048]) -> usize
+// "`nodes` is printed once block 0 is accepted": at the start of `out`.
+pub fn put_nodes_once(stage: Stage, n: u8, out: &mut [u8; 2048]) -> usize
     ensures { λ r. ⌜ r ≤ 64 ⌝ }
-    ensures { λ r. ⌜ Puts (now (out .entry)) 0 (headingOf stage n) r (now (out .exit)) ⌝ }
+    ensures { λ r. ⌜ Puts (now (out .entry)) 0 (nodesOnce (isUnopened stage) n) r (now (out .exit)) ⌝ }
 {
     match stage {
         Stage::Unopened => transcript::put_nodes(out, 0, n),
@@ -35,7 +40,7 @@ fn put_heading(stage: Stage, n: u8, out: &mut [u8; 2048]) -> usize
     }
 }
 
-// Looks at a piece of a file, m being block 0's n, and puts what is printed before its actions at the start of `out`: its refusal, or block 0's heading.
+// Looks at a piece of a file, m being block 0's n, and puts its refusal, if it is refused, at the start of `out`.
 pub fn enter(stage: Stage, m: u8, piece: &[u8], out: &mut [u8; 2048]) -> Entered
     ensures { λ r. ⌜ r .end ≤ 64 ⌝ }
     ensures { λ r. ⌜ r .found ≡ foundIn stage m (now (piece .entry)) ⌝ }
@@ -56,13 +61,28 @@ pub fn enter(stage: Stage, m: u8, piece: &[u8], out: &mut [u8; 2048]) -> Entered
             end: end,
         };
     };
-    let end = put_heading(stage, n, out);
     Entered {
         found: Found::Block {
             number: number,
             count: count,
             n: n,
         },
-        end: end,
+        end: 0,
+    }
+}
+
+// The file's end: `done` and the count of all actions, or the refusal of a file with no bytes. Its text stands at the start of `out`; the answer is its length.
+pub fn put_end(stage: Stage, out: &mut [u8; 2048]) -> usize
+    ensures { λ r. ⌜ r ≤ 2048 ⌝ }
+    ensures { λ r. ⌜ r ≡ length (finishOf doneLine stage) ⌝ }
+    ensures { λ _. ⌜ now (out .exit) ≡ put (now (out .entry)) 0 (finishOf doneLine stage) ⌝ }
+{
+    match stage {
+        Stage::Unopened => transcript::put_refused(out, 0, 0, WRONG_LENGTH),
+        Stage::After {
+            number: _,
+            count: _,
+        } => transcript::put_done(out, 0, order::accepted_by(stage)),
+        Stage::Ended => 0,
     }
 }

@@ -27,6 +27,9 @@ returns c =
     let fed = fed-nothing advancing (seen (a .p)) (a .piece .now) (a .out .now) (sym (entered .1 .0) ∙ c .enum-told .given .1) (entered .1 .1 .1) in
     (omega arith, (fed .0, (fed .1 .0, (fed .1 .1, refl))))
 
+put-nodes-once-requires : tie.Need-put-nodes-once-requires
+put-nodes-once-requires c κs = search needs
+
 opening-requires : tie.Need-opening-requires
 opening-requires c κs = search needs
 
@@ -35,9 +38,8 @@ accepted-by-requires c κs = search needs
 
 play-actions-requires : tie.Need-play-actions-requires
 play-actions-requires c κs =
-    let entered = c .before .before .before .before .before .before .enter .ensures in
-    let known = rw (c .before .before .before .before .found .given .1) at (entered .1 .1 .0) in
-    (known .0, (known .1, (c .before .accepted-by .ensures .0, entered .0)))
+    let known = rw (c .before .before .before .before .before .before .found .given .1) at (c .before .before .before .before .before .before .before .before .enter .ensures .1 .1 .0) in
+    (known .0, (known .1, (c .before .accepted-by .ensures .0, c .before .before .before .put-nodes-once .ensures .0)))
 
 stage-after-requires : tie.Need-stage-after-requires
 stage-after-requires c κs = search needs
@@ -45,16 +47,17 @@ stage-after-requires c κs = search needs
 returns-2 : tie.Need-returns-2
 unfolding view
 returns-2 c =
-    let a = c .before .before .before .before .before .before .before .before .before .before .before .before .before .args in
-    let entered = c .before .before .before .before .before .before .before .before .before .enter .ensures in
-    let block = c .before .before .before .before .before .before .before .found .given in
+    let a = c .before .before .before .before .before .before .before .before .before .before .before .before .before .before .before .args in
+    let entered = c .before .before .before .before .before .before .before .before .before .before .before .enter .ensures in
+    let block = c .before .before .before .before .before .before .before .before .before .found .given in
     let number = block .0 .0 in
     let count = block .0 .1 .0 in
     let n = block .0 .1 .1 .0 in
+    let heading = c .before .before .before .before .before .before .put-nodes-once .ensures .1 in
     let part = c .before .before .play-actions .ensures in
     let plays = rw (c .before .before .before .before .before .opening .ensures, c .before .before .before .before .accepted-by .ensures .1) at (part .1) in
     let stage = c .stage-after .ensures in
-    let fed = fed-block advancing (seen (a .p)) (a .piece .now) (a .out .now) number count n (sym (entered .1 .0) ∙ block .1) (entered .1 .1 .1)
+    let fed = fed-block advancing (seen (a .p)) (a .piece .now) (a .out .now) number count n (sym (entered .1 .0) ∙ block .1) (entered .1 .1 .1) heading
     (plays .puts) (plays .leaves) (stage ∙ ap (λ (b : Bool). stageAfter b number count) (plays .stops)) in
     (part .0, (fed .0, (fed .1 .0, (fed .1 .1, rw stage (sym (ended-after _ _ _))))))
 
@@ -66,6 +69,7 @@ feed-spec =
     enum-known-found
     enum-told
     returns
+    put-nodes-once-requires
     opening-requires
     accepted-by-requires
     play-actions-requires

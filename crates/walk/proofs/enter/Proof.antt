@@ -52,20 +52,16 @@ returns-2 c =
     let is : lookOf (a .stage) (a .m) (a .piece .now) ≡ Refused (told .0 .0) = sym (c .before .before .before .before .before .before .look .ensures .0) ∙ told .1 in
     rw (going, is) (omega arith, (refl, (tt, text)))
 
-put-heading-requires : tie.Need-put-heading-requires
-put-heading-requires c κs = search needs
-
 returns-3 : tie.Need-returns-3
 unfolding foundIn foundText
 returns-3 c =
-    let a = c .before .before .before .before .before .before .before .before .before .args in
-    let going = sym (c .before .before .before .before .before .before .before .is-ended .ensures) ∙ c .before .before .before .before .before .before .if1 .left in
-    let looked = c .before .before .before .before .before .look .ensures in
-    let block = c .before .before .before .head .given in
+    let a = c .before .before .before .before .before .before .before .args in
+    let going = sym (c .before .before .before .before .before .is-ended .ensures) ∙ c .before .before .before .before .if1 .left in
+    let looked = c .before .before .before .look .ensures in
+    let block = c .before .head .given in
     let is : lookOf (a .stage) (a .m) (a .piece .now) ≡ Holds (block .0 .0) (block .0 .1 .0) (block .0 .1 .1 .0) = sym (looked .0) ∙ block .1 in
     let known = rw (block .1) at (looked .1) in
-    let put = c .put-heading .ensures in
-    rw (going, is) (put .0, (refl, (known, put .1)))
+    rw (going, is) (omega arith, (refl, (known, puts-none _ 0)))
 
 pub enter-spec : {M : Type 1} → statement M
 enter-spec =
@@ -80,5 +76,4 @@ enter-spec =
     refusal-requires
     put-refused-requires
     returns-2
-    put-heading-requires
     returns-3)

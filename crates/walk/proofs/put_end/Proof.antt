@@ -7,8 +7,8 @@ use lib.ListN.{length}
 use Rattle.transcript.proofs.Rooms.{puts-line}
 use Rattle.transcript.proofs.Puts.{puts-none}
 use borrow.Author.Needs.{needs}
-use Rattle.player.proofs.finish.Statement.{statement}
-use Rattle.player.proofs.finish.Tie as tie
+use Rattle.walk.proofs.put_end.Statement.{statement}
+use Rattle.walk.proofs.put_end.Tie as tie
 
 enum-told : tie.Need-enum-told
 enum-told c = search needs
@@ -52,8 +52,8 @@ returns-3 : tie.Need-returns-3
 unfolding finishOf
 returns-3 c = rw (c .enum-told3 .given .1) (omega arith, (refl, puts-none _ 0 .holds))
 
-pub finish-spec : {M : Type 1} → statement M
-finish-spec =
+pub put-end-spec : {M : Type 1} → statement M
+put-end-spec =
     tie.close
     (tie.spec
     enum-told

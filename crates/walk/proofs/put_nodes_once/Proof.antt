@@ -4,8 +4,8 @@ use lib.ListN.{length}
 use Rattle.transcript.proofs.Rooms.{puts-line}
 use Rattle.transcript.proofs.Puts.{puts-none}
 use borrow.Author.Needs.{needs}
-use Rattle.walk.proofs.put_heading.Statement.{statement}
-use Rattle.walk.proofs.put_heading.Tie as tie
+use Rattle.walk.proofs.put_nodes_once.Statement.{statement}
+use Rattle.walk.proofs.put_nodes_once.Tie as tie
 
 enum-told : tie.Need-enum-told
 enum-told c = search needs
@@ -32,7 +32,7 @@ returns-2 c = rw (c .enum-told2 .given .1) (omega arith, puts-none _ _)
 returns-3 : tie.Need-returns-3
 returns-3 c = rw (c .enum-told3 .given .1) (omega arith, puts-none _ _)
 
-pub put-heading-spec : {M : Type 1} → statement M
-put-heading-spec =
+pub put-nodes-once-spec : {M : Type 1} → statement M
+put-nodes-once-spec =
     tie.close
     (tie.spec enum-told put-nodes-requires enum-told-2 enum-told-3 returns returns-2 returns-3)
