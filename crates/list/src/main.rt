@@ -1,21 +1,21 @@
 // The run file on standard input as a run in plain words on standard output.
-// Its memory is constant: a block of input, the text of a block, a buffer of output, and the listing.
-use listing::Listing;
+// Its memory is constant: a block of input, the text of a block, a buffer of output, and how far the file is read.
 use stream::Held;
+use walk::reading::Reading;
 
 // A file has at most 2^32 blocks; one piece more shows whether bytes follow them.
 const PIECES: u64 = 4294967297;
 
-// The listing after some pieces, what the output buffer holds, and whether it is over: by a refusal, a failed write or a failed read.
+// How far some pieces were read, what the output buffer holds, and whether it is over: by a refusal, a failed write or a failed read.
 struct Went {
-    listing: Listing,
+    reading: Reading,
     held: Held,
     over: bool,
 }
 
 // Reads and lists piece after piece, to the end of the input or of the listing.
 fn list_pieces(block: &mut [u8], text: &mut [u8; 2048], out: &mut [u8]) -> Went {
-    let mut l = listing::start();
+    let mut l = walk::reading::start();
     let mut held = Held {
         used: 0,
         whole: true,
@@ -26,7 +26,7 @@ fn list_pieces(block: &mut [u8], text: &mut [u8; 2048], out: &mut [u8]) -> Went 
         if !filled.whole {
             os::fail(b"list: standard input");
             return Went {
-                listing: l,
+                reading: l,
                 held: held,
                 over: true,
             };
@@ -34,17 +34,17 @@ fn list_pieces(block: &mut [u8], text: &mut [u8; 2048], out: &mut [u8]) -> Went 
         let count = filled.count;
         if count == 0 {
             return Went {
-                listing: l,
+                reading: l,
                 held: held,
                 over: false,
             };
         }
         let fed = listing::feed(l, &block[..count], text);
-        l = fed.listing;
+        l = fed.reading;
         held = stream::collect(out, held, text, fed.end);
         if fed.ended || !held.whole {
             return Went {
-                listing: l,
+                reading: l,
                 held: held,
                 over: true,
             };
@@ -52,7 +52,7 @@ fn list_pieces(block: &mut [u8], text: &mut [u8; 2048], out: &mut [u8]) -> Went 
         pieces += 1;
     }
     Went {
-        listing: l,
+        reading: l,
         held: held,
         over: false,
     }
@@ -63,7 +63,7 @@ fn finish(went: Went, text: &mut [u8; 2048], out: &mut [u8]) -> Held {
     if went.over {
         return went.held;
     }
-    let l = went.listing;
+    let l = went.reading;
     let end = listing::finish(l, text);
     stream::collect(out, went.held, text, end)
 }

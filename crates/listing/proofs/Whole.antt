@@ -20,7 +20,8 @@ use Rattle.walk.specs.Walk.{walking}
 use Rattle.walk.specs.Feeding.{fedText}
 use Rattle.walk.proofs.Nodes.{whole as walk-whole}
 use Rattle.walk.proofs.Files.{file-walked}
-use Rattle.listing.specs.Listed.{naming, listed, started}
+use Rattle.walk.specs.Reading.{started}
+use Rattle.listing.specs.Listed.{naming, listed}
 use Rattle.listing.proofs.Turns.{naming-n}
 
 -- the pieces of any file, fed one after the other, and then the file's end, give exactly the text of the file

@@ -3,15 +3,10 @@ ghost use mathlib.Core.Path.{_≡_};
 ghost use Prim.Native.Nat.{_+_, _*_, _≤_};
 ghost use lib.ListN.{length};
 ghost use Rattle.runfile.specs.Pieces.{actionsIn};
-ghost use Rattle.transcript.specs.Room.{Puts};
 ghost use Rattle.walk.specs.Feeding.{partOf};
-ghost use Rattle.listing.specs.Listed.{naming, Lists};
-
-// The place after the text of actions, and whether one of them was refused.
-pub(crate) struct Part {
-    pub end: usize,
-    pub ended: bool,
-}
+ghost use Rattle.walk.specs.Reading.{PutsPart};
+ghost use Rattle.listing.specs.Listed.{naming};
+use walk::reading::Part;
 
 // Puts the lines of a block's actions, the first of which has that index, from place `at` on, up to the first refusal.
 pub(crate) fn put_actions(
@@ -27,7 +22,7 @@ pub(crate) fn put_actions(
     requires { ⌜ first ≤ 133143986400 ⌝ }
     requires { ⌜ at ≤ 64 ⌝ }
     ensures { λ r. ⌜ r .end ≤ 2048 ⌝ }
-    ensures { λ r. ⌜ Lists (partOf naming (actionsIn count (now (piece .entry))) n first) (now (out .entry)) at r (now (out .exit)) ⌝ }
+    ensures { λ r. ⌜ PutsPart (partOf naming (actionsIn count (now (piece .entry))) n first) (now (out .entry)) at r (now (out .exit)) ⌝ }
 {
     let last = count as usize;
     let mut end = at;

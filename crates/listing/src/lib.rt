@@ -7,71 +7,38 @@ ghost use lib.ListN.{length};
 ghost use Rattle.transcript.specs.Room.{put};
 ghost use Rattle.runfile.specs.Order.{isEnded};
 ghost use Rattle.walk.specs.Feeding.{feedOf, finishOf};
-ghost use Rattle.listing.specs.Listed.{naming, seen, started};
+ghost use Rattle.walk.specs.Reading.{seen};
+ghost use Rattle.listing.specs.Listed.{naming};
 use runfile::order;
 use runfile::order::Stage;
 use walk::Found;
+use walk::reading;
+use walk::reading::Fed;
+use walk::reading::Reading;
 
 const WRONG_LENGTH: u8 = 8;
 
-// A listing between two pieces: block 0's n, and how far the file has been listed.
-pub struct Listing {
-    pub n: u8,
-    pub stage: Stage,
-}
-
-// What a piece gives: the listing after it, how many bytes of text it put, and whether a refusal has ended the listing.
-pub struct Fed {
-    pub listing: Listing,
-    pub end: usize,
-    pub ended: bool,
-}
-
-// The listing before a file.
-pub fn start() -> Listing
-    ensures { λ r. ⌜ seen r ≡ started ⌝ }
-{
-    Listing {
-        n: 0,
-        stage: Stage::Unopened,
-    }
-}
-
 // Lists a piece of a file. Its text stands at the start of `out`.
-pub fn feed(l: Listing, piece: &[u8], out: &mut [u8; 2048]) -> Fed
+pub fn feed(l: Reading, piece: &[u8], out: &mut [u8; 2048]) -> Fed
     ensures { λ r. ⌜ r .end ≤ 2048 ⌝ }
     ensures { λ r. ⌜ r .end ≡ length (feedOf naming (seen l) (now (piece .entry)) .text) ⌝ }
     ensures { λ _. ⌜ now (out .exit) ≡ put (now (out .entry)) 0 (feedOf naming (seen l) (now (piece .entry)) .text) ⌝ }
-    ensures { λ r. ⌜ seen (r .listing) ≡ feedOf naming (seen l) (now (piece .entry)) .after ⌝ }
-    ensures { λ r. ⌜ r .ended ≡ isEnded (r .listing .stage) ⌝ }
+    ensures { λ r. ⌜ seen (r .reading) ≡ feedOf naming (seen l) (now (piece .entry)) .after ⌝ }
+    ensures { λ r. ⌜ r .ended ≡ isEnded (r .reading .stage) ⌝ }
 {
     let stage = l.stage;
     let entered = walk::enter(stage, l.n, piece, out);
     let found = entered.found;
     let Found::Block { number, count, n } = found else {
-        return Fed {
-            listing: Listing {
-                n: l.n,
-                stage: Stage::Ended,
-            },
-            end: entered.end,
-            ended: true,
-        };
+        return reading::after(l.n, Stage::Ended, entered.end);
     };
     let at = walk::put_nodes_once(stage, n, out);
     let part = block::put_actions(n, piece, count, order::accepted_by(stage), out, at);
-    Fed {
-        listing: Listing {
-            n: n,
-            stage: order::stage_after(part.ended, number, count),
-        },
-        end: part.end,
-        ended: part.ended,
-    }
+    reading::after(n, order::stage_after(part.ended, number, count), part.end)
 }
 
 // The file's end. Its text stands at the start of `out`; the answer is its length.
-pub fn finish(l: Listing, out: &mut [u8; 2048]) -> usize
+pub fn finish(l: Reading, out: &mut [u8; 2048]) -> usize
     ensures { λ r. ⌜ r ≤ 2048 ⌝ }
     ensures { λ r. ⌜ r ≡ length (finishOf (naming .done) (l .stage)) ⌝ }
     ensures { λ _. ⌜ now (out .exit) ≡ put (now (out .entry)) 0 (finishOf (naming .done) (l .stage)) ⌝ }

@@ -1,5 +1,7 @@
 // A run file walked from block to block and from action to action: the text that comes of it, whatever is done with each action.
 // `player`, `listing` and `summing` are the walks; here is what they have in common.
+pub mod reading;
+
 ghost use mathlib.Core.Path.{_≡_};
 ghost use Prim.Native.Nat.{_≤_};
 ghost use lib.ListN.{length};

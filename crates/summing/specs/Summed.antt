@@ -1,0 +1,48 @@
+-- The text that `sums` prints of a run file: the file walked, each block headed by its line of sums, and its actions looked at.
+use mathlib.Core.Bool.{true, false, cond}
+use mathlib.Core.List.{List, [], _∷_}
+use Prim.Native.Nat.{ℕ}
+use lib.Dec.{eqb}
+use lib.ListN.{take}
+use Rattle.charts.specs.Numbers as N
+use Rattle.charts.specs.Records.{read}
+use Rattle.charts.specs.declared.Action.{Action}
+use Rattle.record.specs.Looked.{numberOf}
+use Rattle.runfile.specs.Sums.{sumsOf}
+use Rattle.transcript.specs.Lines.{line, doneLine, refusedLine}
+use Rattle.transcript.specs.Text.{decimal}
+use Rattle.walk.specs.Walk.{Turn, Walker, walked}
+use Rattle.walk.specs.Feeding.{Part}
+use Rattle.summing.specs.declared.block.Looked.{Looked}
+
+-- "for each block, its number and the sums of its actions, one line a block, single spaces"
+abbrev pub figures : List ℕ → List (List ℕ)
+figures [] = []
+figures (x ∷ l) = decimal x ∷ figures l
+
+unfoldable pub sumsLine : ℕ → List ℕ → List ℕ
+sumsLine number sums = line (decimal number ∷ figures sums)
+
+-- an action looked at by 2 to 6 (13 after 5), without a line; the state of the walk is block 0's n
+abbrev pub turn : Action → ℕ → Turn ℕ
+turn a n = record { number = numberOf (read n a); line = []; state = n }
+
+-- a block's sums, as many as its count, before its actions; "ended by the player's `done` or `refused` line"
+abbrev pub tracing : Walker ℕ
+tracing = record {
+  heading = λ first number count n b. sumsLine number (take count (sumsOf b));
+  opening = λ n. n;
+  nodes = λ n. n;
+  turn = λ i a n. turn a n;
+  done = doneLine;
+}
+
+-- the text of a file, whatever its bytes are
+abbrev pub summed : List ℕ → List ℕ
+summed bytes = walked tracing bytes
+
+-- what the actions of a block give that were looked at: nothing, or the line of the first that is refused
+abbrev pub lookedPart : ℕ → Looked → Part ℕ
+lookedPart n r =
+    cond (eqb (r .number) N.accepted) (record { text = []; state = n; ended = false })
+    (record { text = refusedLine (r .index) (r .number); state = n; ended = true })

@@ -1,0 +1,84 @@
+// One block: its line of sums, and its actions looked at.
+ghost use mathlib.Core.Path.{_≡_};
+ghost use Prim.Native.Nat.{_≤_};
+ghost use lib.ListN.{length, take};
+ghost use Rattle.runfile.specs.Pieces.{actionsIn};
+ghost use Rattle.transcript.specs.Room.{Puts};
+ghost use Rattle.walk.specs.Feeding.{partOf};
+ghost use Rattle.walk.specs.Reading.{PutsPart};
+ghost use Rattle.summing.specs.Summed.{sumsLine, tracing, lookedPart};
+use walk::reading::Part;
+
+// The first action that is refused: its index and the number; 0 if there is none.
+pub(crate) struct Looked {
+    pub index: u64,
+    pub number: u8,
+}
+
+fn wide(x: u32) -> u64
+    ensures { λ r. ⌜ r ≡ x ⌝ }
+{
+    x as u64
+}
+
+// Puts a block's number and so many of its sums at the start of `out`.
+pub(crate) fn put_sums(out: &mut [u8; 2048], number: u32, sums: &[u32; 31], count: u8) -> usize
+    requires { ⌜ (count ≤ 31) × (length (now sums) ≡ 31) ⌝ }
+    ensures { λ r. ⌜ r ≤ 1024 ⌝ }
+    ensures { λ r. ⌜ Puts (now (out .entry)) 0 (sumsLine number (take count (now (sums .entry)))) r (now (out .exit)) ⌝ }
+{
+    let last = count as usize;
+    let mut end = transcript::put_u64(out, 0, number as u64);
+    let mut k: usize = 0;
+    while k < last {
+        let at = transcript::put_word(out, end, b" ");
+        end = transcript::put_u64(out, at, wide(sums[k]));
+        k += 1;
+    }
+    transcript::put_word(out, end, b"\n")
+}
+
+// Looks at a block's actions, the first of which has that index, by 2 to 6 (13 after 5), up to the first refusal.
+pub(crate) fn look_at_actions(n: u8, piece: &[u8], count: u8, first: u64) -> Looked
+    requires { ⌜ length (now piece) ≡ 512 ⌝ }
+    requires { ⌜ count ≤ 31 ⌝ }
+    requires { ⌜ first ≤ 133143986400 ⌝ }
+    ensures { λ r. ⌜ lookedPart n r ≡ partOf tracing (actionsIn count (now (piece .entry))) n first ⌝ }
+{
+    let last = count as usize;
+    let mut k: usize = 0;
+    while k < last {
+        let from = 14 + 16 * k;
+        let number = record::number(record::decode(n, record::read_action(&piece[from..])));
+        if number != 0 {
+            return Looked {
+                index: first + k as u64,
+                number: number,
+            };
+        }
+        k += 1;
+    }
+    Looked {
+        index: 0,
+        number: 0,
+    }
+}
+
+// Puts the line of a refusal, if there is one, from place `at` on.
+pub(crate) fn put_refusal(out: &mut [u8; 2048], at: usize, n: u8, looked: Looked) -> Part
+    requires { ⌜ at ≤ 1024 ⌝ }
+    ensures { λ r. ⌜ r .end ≤ 2048 ⌝ }
+    ensures { λ r. ⌜ PutsPart (lookedPart n looked) (now (out .entry)) at r (now (out .exit)) ⌝ }
+{
+    if looked.number == 0 {
+        return Part {
+            end: at,
+            ended: false,
+        };
+    }
+    let end = transcript::put_refused(out, at, looked.index, looked.number);
+    Part {
+        end: end,
+        ended: true,
+    }
+}
