@@ -58,13 +58,13 @@ block-only n i l s bytes b =
     rw used at (block-is s i k n bytes (b .accepted))
 
 -- a block has 1 to 31 actions
-some-actions : (n i : ℕ) (l : List Action) (s : List ℕ) → IsBlock n i l s → (1 ≤ length l) × (length l ≤ 31)
+pub some-actions : (n i : ℕ) (l : List Action) (s : List ℕ) → IsBlock n i l s → (1 ≤ length l) × (length l ≤ 31)
 some-actions n i l s b =
     let a = shown s i (length l) n (b .accepted) in
     let c = rw (a .the-count) at (a .counted) in
     (ltb-true 0 (length l) (and-left (ltb 0 (length l)) _ c), count-small (length l) c)
 
-blocks-some : {n i : ℕ} {l : List Action} {s : List ℕ} → Blocks n i l s → 1 ≤ length l
+pub blocks-some : {n i : ℕ} {l : List Action} {s : List ℕ} → Blocks n i l s → 1 ≤ length l
 blocks-some {n} {i} {l} {s} (last b) = some-actions n i l s b .0
 blocks-some (next {l = l} {m = m} b full r) = simp length-append (omega arith)
 
@@ -139,7 +139,7 @@ never-zero n a = go (decodes n a)
 
 -- the parts of a list that the writer takes
 module _ (n : ℕ) where
-  taken-first : (l m : List Action) → firstRefusal n (l ++ m) ≡ 0 → firstRefusal n l ≡ 0
+  pub taken-first : (l m : List Action) → firstRefusal n (l ++ m) ≡ 0 → firstRefusal n l ≡ 0
   taken-first [] m h = refl
   taken-first (a ∷ l) m h = go (read n a) (taken-first l m) h
     where
@@ -147,7 +147,7 @@ module _ (n : ℕ) where
       go (D.Refused k) f e = e
       go (D.Accepted x) f e = f e
 
-  taken-second : (l m : List Action) → firstRefusal n (l ++ m) ≡ 0 → firstRefusal n m ≡ 0
+  pub taken-second : (l m : List Action) → firstRefusal n (l ++ m) ≡ 0 → firstRefusal n m ≡ 0
   taken-second [] m h = h
   taken-second (a ∷ l) m h = go (read n a) refl (taken-second l m) h
     where

@@ -1,14 +1,16 @@
 -- The text that `sums` prints of a run file: the file walked, each block headed by its line of sums, and its actions looked at.
 use mathlib.Core.Bool.{true, false, cond}
-use mathlib.Core.List.{List, [], _∷_}
-use Prim.Native.Nat.{ℕ}
+use mathlib.Core.List.{List, [], _∷_, _++_}
+use Prim.Native.Nat.{ℕ, zero, suc}
 use lib.Dec.{eqb}
-use lib.ListN.{take}
+use lib.ListN.{length, take, drop}
 use Rattle.charts.specs.Numbers as N
 use Rattle.charts.specs.Records.{read}
 use Rattle.charts.specs.declared.Action.{Action}
 use Rattle.record.specs.Looked.{numberOf}
+use Rattle.runfile.specs.File.{blocksFor}
 use Rattle.runfile.specs.Sums.{sumsOf}
+use Rattle.runfile.specs.Write.{blockOf}
 use Rattle.transcript.specs.Lines.{line, doneLine, refusedLine}
 use Rattle.transcript.specs.Text.{decimal}
 use Rattle.walk.specs.Walk.{Turn, Walker, walked}
@@ -40,6 +42,15 @@ tracing = record {
 -- the text of a file, whatever its bytes are
 abbrev pub summed : List ℕ → List ℕ
 summed bytes = walked tracing bytes
+
+-- the text of a list of actions for n nodes that the writer takes: for each block of the list's file the sums that the writer gives beside it, and `done`;
+-- it is that of every file of the list (proofs/Whole.antt)
+abbrev pub tracesFrom : ℕ → ℕ → ℕ → List Action → List ℕ
+tracesFrom zero i n l = []
+tracesFrom (suc k) i n l = sumsLine i (take (length (take 31 l)) (sumsOf (blockOf i n (take 31 l)))) ++ tracesFrom k (suc i) n (drop 31 l)
+
+abbrev pub listSummed : ℕ → List Action → List ℕ
+listSummed n l = tracesFrom (blocksFor (length l)) 0 n l ++ doneLine (length l)
 
 -- what the actions of a block give that were looked at: nothing, or the line of the first that is refused
 abbrev pub lookedPart : ℕ → Looked → Part ℕ

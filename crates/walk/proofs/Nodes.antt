@@ -39,7 +39,7 @@ one-n : (b : Bool) (t : List ℕ) (q p : Part ℕ) (n : ℕ) → p .state ≡ n 
 one-n true t q p n e f = e
 one-n false t q p n e f = f
 
-abbrev Any : ℕ → Type 0
+abbrev pub Any : ℕ → Type 0
 Any n = Unit {0}
 
 module _ {w : Walker ℕ} (keeps : KeepsN w) where
@@ -75,7 +75,7 @@ module _ {w : Walker ℕ} (keeps : KeepsN w) where
       let left = sym (part-n (actionsIn count piece) (openingOf w (l .stage) n (l .n)) (acceptedBy (l .stage)) ∙ same) in
       fed-block w (seen l) piece start number count n is look heading puts left (ap (λ (b : Bool). stageAfter b number count) stop)
 
-  does : W.Does Any w w
+  pub does : W.Does Any w w
   does = record {
     same-heading = λ first number count n b. refl;
     same-done = λ i. refl;

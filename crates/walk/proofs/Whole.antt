@@ -146,7 +146,7 @@ module _ {S : Type 0} {Good : S → Type 0} {w v : Walker S} (does : Does Good w
       (block l (λ h t j good. fed l h t j good) g s b (lookedAt (before g (v .nodes s)) b (headOf b)) k good (passed (before g (v .nodes s)) b))
 
   -- the state before block 0 says nothing
-  any-state : (l : List (List ℕ)) (s t : S) → walkedFrom w l none s 0 ≡ walkedFrom w l none t 0
+  pub any-state : (l : List (List ℕ)) (s t : S) → walkedFrom w l none s 0 ≡ walkedFrom w l none t 0
   any-state [] s t = refl
   any-state (b ∷ l) s t = by-head (lookedAt none b (headOf b))
     where
