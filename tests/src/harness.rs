@@ -1,17 +1,20 @@
-//! What is done with the model: run files and texts made at random, the programs `play`, `compose`
-//! and `list` held against it, sample runs checked, demand 3 watched, one transaction and its reply
-//! walked through whole, and figures taken.
+//! What is done with the model: run files and texts made at random, the programs `play`, `compose`,
+//! `list` and `sums` held against it, sample runs checked, demand 3 watched, one transaction and its
+//! reply walked through whole, and figures taken.
 
 pub mod bench;
 pub mod child;
 pub mod compare;
+pub mod compare_sums;
 pub mod compare_text;
 pub mod driver;
 pub mod forward;
 pub mod fuzz;
 pub mod generate;
+pub mod hits;
 pub mod random;
 pub mod samples;
+pub mod sum_ways;
 pub mod tally;
 pub mod texts;
 pub mod walk;

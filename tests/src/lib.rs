@@ -1,17 +1,20 @@
 //! The model written apart: an independent reference model of the IEEE 1394 rehearsal bench,
-//! written from document 01, requests 1 to 4 of document 02 and the readings of them, and from
+//! written from document 01, requests 1 to 5 of document 02 and the readings of them, and from
 //! nothing else.
 //!
 //! The model itself:
 //! - [`bus`]: packets, signals, node modes, the reception charts, the ten actions, refusals 2 to 7,
 //!   12 and 13;
 //! - [`table`]: the reception charts as one table, printed;
-//! - [`runfile`]: blocks of 512 bytes, read and written;
+//! - [`runfile`]: blocks of 512 bytes, read and written, and their sums;
 //! - [`transcript`]: the printed text;
 //! - [`player`]: a run file in, the printed text out;
+//! - [`unplayed`]: a run file in whose actions are looked at, and not played;
+//! - [`sums`]: such a file in, its sums out;
 //! - [`notation`]: runs in plain words, a text to a run file and back.
 //!
-//! What is done with it, against the programs `play`, `compose` and `list`, stands in [`harness`].
+//! What is done with it, against the programs `play`, `compose`, `list` and `sums`, stands in
+//! [`harness`].
 //!
 //! All forms of a run meet in [`bus::Record`]: `runfile` turns bytes into records and back, and
 //! `notation` lines of text.
@@ -23,5 +26,7 @@ pub mod harness;
 pub mod notation;
 pub mod player;
 pub mod runfile;
+pub mod sums;
 pub mod table;
 pub mod transcript;
+pub mod unplayed;

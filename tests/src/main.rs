@@ -1,25 +1,30 @@
-//! `model`: the model written apart, and the trials that hold the programs `play`, `compose` and
-//! `list` against it.
+//! `model`: the model written apart, and the trials that hold the programs `play`, `compose`, `list`
+//! and `sums` against it.
 
-use std::io::{self, BufReader, BufWriter, Write};
+use std::io::{self, BufReader, BufWriter, StdinLock, StdoutLock, Write};
 use std::path::PathBuf;
 use std::process::ExitCode;
 
-use bench_model::harness::{bench, compare, compare_text, fuzz, generate, samples, walk};
-use bench_model::{notation, player, table};
+use bench_model::harness::{
+    bench, compare, compare_sums, compare_text, fuzz, generate, samples, walk,
+};
+use bench_model::{notation, player, sums, table};
 
 const USAGE: &str = "\
 model play                                        a run file in, the printed text out
 model compose [--lines]                           a run in plain words in, a run file out; or which line
                                                   says how many actions
 model list                                        a run file in, the run in plain words out
+model sums                                        a run file in, the sums of its blocks out
 model table                                       the reception chart, 24 lines of 14 cells
 model compare PLAY [--files N] [--seed S] [--only K]
                                                   made files, played by PLAY and by the model
 model fuzz PLAY [--files N] [--seed S]            bytes without a plan
 model compare-text COMPOSE LIST [--files N] [--seed S] [--only K]
                                                   made texts and files, by both programs and by the model
-model runs DIR PLAY COMPOSE LIST                  the sample runs of a directory
+model compare-sums SUMS [--files N] [--seed S] [--only K]
+                                                  made files, summed by SUMS and by the model
+model runs DIR PLAY COMPOSE LIST SUMS             the sample runs of a directory
 model walk [--n N]                                one transaction and its reply, every way they can go
 model generate mixed|broadcast|transaction [--n N] [--actions N] [--seed S]
                                                   a run file that plays to its end
@@ -54,6 +59,10 @@ fn command() -> Result<(), String> {
             rest.end()?;
             list().map_err(|error| error.to_string())
         }
+        "sums" => {
+            rest.end()?;
+            sums().map_err(|error| error.to_string())
+        }
         "table" => {
             rest.end()?;
             io::stdout().write_all(table::text().as_bytes()).map_err(|error| error.to_string())
@@ -71,9 +80,10 @@ fn command() -> Result<(), String> {
         }
         "runs" => {
             let directory = rest.path()?;
-            let (play, compose, list) = (rest.path()?, rest.path()?, rest.path()?);
+            let (play, compose) = (rest.path()?, rest.path()?);
+            let (list, sums) = (rest.path()?, rest.path()?);
             rest.end()?;
-            samples::check(&directory, &samples::Programs { play, compose, list })
+            samples::check(&directory, &samples::Programs { play, compose, list, sums })
         }
         "compare" => {
             let files = rest.number("--files")?.unwrap_or(5000);
@@ -82,6 +92,15 @@ fn command() -> Result<(), String> {
             let program = rest.program()?;
             let options = compare::Options { program: &program, files, seed, only };
             print!("{}", compare::compare(&options)?);
+            Ok(())
+        }
+        "compare-sums" => {
+            let files = rest.number("--files")?.unwrap_or(8000);
+            let seed = rest.number("--seed")?.unwrap_or(1);
+            let only = rest.number("--only")?;
+            let program = rest.program()?;
+            let options = compare::Options { program: &program, files, seed, only };
+            print!("{}", compare_sums::compare_sums(&options)?);
             Ok(())
         }
         "fuzz" => {
@@ -105,7 +124,7 @@ fn command() -> Result<(), String> {
             let seed = rest.number("--seed")?.unwrap_or(1);
             let kind = rest.kind()?;
             rest.end()?;
-            let mut output = BufWriter::with_capacity(1 << 18, io::stdout().lock());
+            let (_, mut output) = buffered();
             generate::generate(kind, n, actions, seed, &mut output)
         }
         "bench" => {
@@ -128,10 +147,16 @@ fn play() -> io::Result<()> {
     player::play_stream(&mut io::stdin().lock(), &mut io::stdout().lock())
 }
 
+/// Standard input and output, in large pieces.
+fn buffered() -> (BufReader<StdinLock<'static>>, BufWriter<StdoutLock<'static>>) {
+    const ROOM: usize = 1 << 18;
+    let (input, output) = (io::stdin().lock(), io::stdout().lock());
+    (BufReader::with_capacity(ROOM, input), BufWriter::with_capacity(ROOM, output))
+}
+
 /// A fault is one line on standard error; as with the programs, the exit status does not tell.
 fn compose(lines: bool) -> io::Result<()> {
-    let mut input = BufReader::with_capacity(1 << 18, io::stdin().lock());
-    let mut output = BufWriter::with_capacity(1 << 18, io::stdout().lock());
+    let (mut input, mut output) = buffered();
     let ended = match lines {
         true => notation::lines_stream(&mut input, &mut output)?,
         false => notation::compose_stream(&mut input, &mut output)?,
@@ -143,9 +168,13 @@ fn compose(lines: bool) -> io::Result<()> {
 }
 
 fn list() -> io::Result<()> {
-    let mut input = BufReader::with_capacity(1 << 18, io::stdin().lock());
-    let mut output = BufWriter::with_capacity(1 << 18, io::stdout().lock());
+    let (mut input, mut output) = buffered();
     notation::list_stream(&mut input, &mut output)
+}
+
+fn sums() -> io::Result<()> {
+    let (mut input, mut output) = buffered();
+    sums::sums_stream(&mut input, &mut output)
 }
 
 /// The words after the subcommand: options are taken out, what is left is taken in order.

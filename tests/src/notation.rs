@@ -8,8 +8,9 @@ use std::fmt;
 use std::io::{self, BufRead, Read, Write};
 
 use crate::bus::{Action, Head, Packet, Record, Refusal, ALL_NODES};
-use crate::runfile::{self, Reader, BLOCK, FULL};
+use crate::runfile::{self, BLOCK, FULL};
 use crate::transcript;
+use crate::unplayed::{self, Unplayed};
 
 /// The most bytes that a line may have, its newline not counted.
 pub const LONGEST_LINE: usize = 255;
@@ -454,8 +455,8 @@ impl Composer {
     /// Writes the block under way, whose actions were looked at when they came.
     fn write(&mut self, number: u32, output: &mut impl Write) -> io::Result<()> {
         let mut block = [0; BLOCK];
-        runfile::write_block(&mut block, number, self.n, &self.under_way)
-            .expect("the writer takes it");
+        let (written, _) = runfile::write_block(&mut block, number, self.n, &self.under_way);
+        written.expect("the writer takes it");
         self.number = number.checked_add(1);
         self.under_way.clear();
         output.write_all(&block)
@@ -548,63 +549,31 @@ pub fn print_action(text: &mut Vec<u8>, action: Action) {
     text.push(b'\n');
 }
 
-/// A run file being listed.
-#[derive(Default)]
-struct Lister {
-    reader: Reader,
-    begun: bool,
-    listed: u64,
-}
+/// A listing: `nodes N`, then a line for each action, and no last line unless a refusal ends it.
+struct Listing;
 
-impl Lister {
-    /// Lists one block, or what stands in the place of one.
-    fn block(&mut self, bytes: &[u8], text: &mut Vec<u8>) -> Result<(), Refusal> {
-        let (head, actions) = self.reader.block(bytes)?;
-        if !self.begun {
+impl Unplayed for Listing {
+    fn block(text: &mut Vec<u8>, head: runfile::Head, _: &[u8; BLOCK]) {
+        if head.number == 0 {
             transcript::nodes(text, head.n);
-            self.begun = true;
         }
-        for record in runfile::records(actions) {
-            print_action(text, record.look(head.n)?);
-            self.listed += 1;
-        }
-        Ok(())
     }
 
-    /// The last line of a listing that a refusal ends.
-    fn refused(&self, refusal: Refusal, text: &mut Vec<u8>) {
-        transcript::refused(text, self.listed, refusal);
+    fn action(text: &mut Vec<u8>, action: Action) {
+        print_action(text, action);
     }
+
+    fn done(_: &mut Vec<u8>, _: u64) {}
 }
 
 /// Lists a run file of any length in constant memory.
 pub fn list_stream(input: &mut impl Read, output: &mut impl Write) -> io::Result<()> {
-    let mut lister = Lister::default();
-    let mut text = Vec::new();
-    let mut block = Vec::with_capacity(BLOCK);
-    loop {
-        block.clear();
-        text.clear();
-        let length = input.by_ref().take(BLOCK as u64).read_to_end(&mut block)?;
-        let listed = match length {
-            0 => lister.reader.end(),
-            _ => lister.block(&block, &mut text),
-        };
-        if let Err(refusal) = listed {
-            lister.refused(refusal, &mut text);
-        }
-        output.write_all(&text)?;
-        if length == 0 || listed.is_err() {
-            return output.flush();
-        }
-    }
+    unplayed::stream::<Listing>(input, output)
 }
 
 /// The text of a whole file.
 pub fn list(file: &[u8]) -> Vec<u8> {
-    let mut text = Vec::new();
-    list_stream(&mut &file[..], &mut text).expect("memory can be written");
-    text
+    unplayed::whole::<Listing>(file)
 }
 
 #[cfg(test)]

@@ -1,4 +1,7 @@
-//! "Run files": blocks of 512 bytes, and the numbers 8, 9, 1, 10 and 11.
+//! "Run files": blocks of 512 bytes, their sums, and the numbers 8, 9, 1, 10 and 11.
+
+use std::array;
+use std::ops::Range;
 
 use crate::bus::{Record, Refusal};
 
@@ -20,10 +23,28 @@ pub struct Head {
     pub n: u8,
 }
 
-/// "sum over bytes i = 0 to 509 of byte × (i+1), modulo 65,521"; at most 33,227,775 before that.
-pub fn check(block: &[u8; BLOCK]) -> u16 {
-    let sum: u32 = block[..CHECK_AT].iter().zip(1u32..).map(|(&byte, i)| u32::from(byte) * i).sum();
+/// Byte i × (i + 1) over these bytes, modulo 65,521; over all of them at most 33,227,775 before that.
+fn sum(block: &[u8; BLOCK], bytes: Range<usize>) -> u16 {
+    let weights = bytes.start as u32 + 1..;
+    let sum: u32 = block[bytes].iter().zip(weights).map(|(&byte, i)| u32::from(byte) * i).sum();
     (sum % 65_521) as u16
+}
+
+/// "sum over bytes i = 0 to 509 of byte × (i+1), modulo 65,521"
+pub fn check(block: &[u8; BLOCK]) -> u16 {
+    sum(block, 0..CHECK_AT)
+}
+
+/// The sums of a block's actions, for tracing: "There are 31 of them".
+pub type Sums = [u16; FULL];
+
+/// "the k-th, from 1, is the check's sum over bytes 14 to 13 + 16k modulo 65,521; 0 past the count".
+pub fn sums(block: &[u8; BLOCK]) -> Sums {
+    let count = usize::from(block[4]);
+    array::from_fn(|place| match place + 1 {
+        k if k <= count => sum(block, FIRST_ACTION..FIRST_ACTION + RECORD * k),
+        _ => 0,
+    })
 }
 
 /// Puts the check of the block into its last two bytes.
@@ -118,14 +139,30 @@ pub fn records(actions: &[u8]) -> impl Iterator<Item = Record> + '_ {
     })
 }
 
-/// "The writer looks at 8, 1, 11, then 2 to 6 for each action", and at 13 "after 5, by the writer
-/// too". "A refused write leaves its buffer as it was".
+/// Writes a block, and gives the sums of its actions beside it: "0 past the count and when refused".
+/// "A refused write leaves its buffer as it was". The sums are taken from the written bytes.
 pub fn write_block(
     buffer: &mut [u8],
     number: u32,
     n: u8,
     records: &[Record],
-) -> Result<(), Refusal> {
+) -> (Result<(), Refusal>, Sums) {
+    match writable(buffer, n, records) {
+        Ok(block) => {
+            write_unchecked(block, number, n, records);
+            (Ok(()), sums(block))
+        }
+        Err(refusal) => (Err(refusal), [0; FULL]),
+    }
+}
+
+/// "The writer looks at 8, 1, 11, then 2 to 6 for each action", and at 13 "after 5, by the writer
+/// too".
+fn writable<'a>(
+    buffer: &'a mut [u8],
+    n: u8,
+    records: &[Record],
+) -> Result<&'a mut [u8; BLOCK], Refusal> {
     let Ok(block) = <&mut [u8; BLOCK]>::try_from(buffer) else {
         return Err(Refusal::BlockLength);
     };
@@ -138,8 +175,7 @@ pub fn write_block(
     for record in records {
         record.look(n)?;
     }
-    write_unchecked(block, number, n, records);
-    Ok(())
+    Ok(block)
 }
 
 /// The block of these records, whatever is in them: the harness writes wrong ones too.
@@ -159,11 +195,11 @@ pub fn write_unchecked(block: &mut [u8; BLOCK], number: u32, n: u8, records: &[R
 pub fn write_file(n: u8, records: &[Record]) -> Result<Vec<u8>, Refusal> {
     if records.is_empty() {
         let mut block = [0; BLOCK];
-        write_block(&mut block, 0, n, records)?;
+        write_block(&mut block, 0, n, records).0?;
     }
     let mut file = vec![0; records.len().div_ceil(FULL) * BLOCK];
     for ((block, part), number) in file.chunks_exact_mut(BLOCK).zip(records.chunks(FULL)).zip(0..) {
-        write_block(block, number, n, part)?;
+        write_block(block, number, n, part).0?;
     }
     Ok(file)
 }

@@ -1,4 +1,4 @@
-//! "A run printed": every line of it, ended by a newline, the last one too.
+//! "A run printed", and its sums: every line, ended by a newline, the last one too.
 
 use crate::bus::{Refusal, Report, Reported};
 
@@ -39,6 +39,15 @@ pub fn action(out: &mut Vec<u8>, index: u64, kind: u8, reported: Option<Reported
     // "end with it, so case A's line 12 reads `12 4 0 sent 0`"
     if let Some(label) = report.label() {
         after_space(out, label.into());
+    }
+    out.push(b'\n');
+}
+
+/// `0 30`: "the block's number and the sums of its actions".
+pub fn sums(out: &mut Vec<u8>, number: u32, sums: &[u16]) {
+    figure(out, number.into());
+    for &sum in sums {
+        after_space(out, sum.into());
     }
     out.push(b'\n');
 }

@@ -36,7 +36,7 @@ fn altered(mut file: Vec<u8>, place: usize, alter: impl Fn(&mut [u8; BLOCK])) ->
 fn the_layout_of_a_block() {
     let mut block = [0xee; BLOCK];
     let records = [labelled(1, 63, 0x0403_0201, 0x0807_0605, 42), respond(1, 9, 1)];
-    runfile::write_block(&mut block, 0x0d0c_0b0a, 3, &records).unwrap();
+    runfile::write_block(&mut block, 0x0d0c_0b0a, 3, &records).0.unwrap();
     assert_eq!(block[..6], [0x0a, 0x0b, 0x0c, 0x0d, 2, 3]);
     assert_eq!(block[6..14], [0; 8]);
     assert_eq!(block[14..30], [1, 1, 63, 0, 0, 42, 0, 0, 1, 2, 3, 4, 5, 6, 7, 8]);
@@ -105,7 +105,7 @@ fn number_8() {
     for length in [0, 511, 513] {
         assert_eq!(runfile::read_block(&vec![0; length]), Err(Refusal::BlockLength));
         let mut buffer = vec![7; length];
-        let written = runfile::write_block(&mut buffer, 0, 1, &[]);
+        let (written, _) = runfile::write_block(&mut buffer, 0, 1, &[]);
         assert_eq!(written, Err(Refusal::BlockLength), "8 before 1 and 11");
         assert_eq!(buffer, vec![7; length]);
     }
@@ -162,11 +162,11 @@ fn none_follows_the_last_number() {
     let head = Head { number: u32::MAX - 1, count: 31, n: 2 };
     let mut block = [0; BLOCK];
     let run = long_run(31);
-    runfile::write_block(&mut block, u32::MAX, 2, &run).unwrap();
+    runfile::write_block(&mut block, u32::MAX, 2, &run).0.unwrap();
     let mut reader = Reader::after(head);
     assert!(reader.block(&block).is_ok());
     for number in [0, 1, u32::MAX] {
-        runfile::write_block(&mut block, number, 2, &run).unwrap();
+        runfile::write_block(&mut block, number, 2, &run).0.unwrap();
         assert_eq!(reader.block(&block), Err(Refusal::BlockOrder));
     }
 }
@@ -272,9 +272,10 @@ fn number_13() {
 fn the_writer() {
     let refused = |n: u8, records: &[Record]| {
         let mut buffer = [0xee; BLOCK];
-        let refusal = runfile::write_block(&mut buffer, 0, n, records).expect_err("a refusal");
+        let (written, sums) = runfile::write_block(&mut buffer, 0, n, records);
         assert_eq!(buffer, [0xee; BLOCK], "a refused write leaves its buffer as it was");
-        refusal.number()
+        assert_eq!(sums, [0; 31], "and has no sums");
+        written.expect_err("a refusal").number()
     };
     let wrong = Record { kind: 11, ..Record::default() };
     assert_eq!(refused(64, &[]), 1);
@@ -293,9 +294,9 @@ fn the_writer() {
     assert_eq!(refused(2, &[no_label, clock(2)]), 13, "each action in its turn");
     // 7 is not looked at.
     let mut buffer = [0xee; BLOCK];
-    assert_eq!(runfile::write_block(&mut buffer, 0, 2, &[pass(); 31]), Ok(()));
+    assert_eq!(runfile::write_block(&mut buffer, 0, 2, &[pass(); 31]).0, Ok(()));
     let run = [labelled(0, 1, 0, 0, 63); 31];
-    assert_eq!(runfile::write_block(&mut buffer, 0, 2, &run), Ok(()));
+    assert_eq!(runfile::write_block(&mut buffer, 0, 2, &run).0, Ok(()));
     assert_eq!(runfile::write_file(2, &[]), Err(Refusal::BlockContent));
     assert_eq!(runfile::write_file(1, &[]), Err(Refusal::NodeCount));
 }

@@ -8,6 +8,8 @@ use std::sync::{mpsc, Mutex};
 use std::thread;
 use std::time::Duration;
 
+use super::random::Random;
+
 /// A program that has not ended by then is taken not to end.
 const PATIENCE: Duration = Duration::from_secs(60);
 
@@ -17,6 +19,21 @@ pub enum Input<'a> {
     File(&'a Path),
     /// Through a pipe, in pieces of this many bytes.
     Pipe(&'a [u8], usize),
+}
+
+/// These bytes for a program: mostly in a file, now and then through a pipe in odd pieces.
+pub fn input<'a>(
+    bytes: &'a [u8],
+    index: u64,
+    path: &'a Path,
+    random: &mut Random,
+) -> Result<Input<'a>, String> {
+    if index % 4 == 3 {
+        let piece = random.pick(&[1, 2, 7, 255, 256, 257, 511, 512, 513, 4096]);
+        return Ok(Input::Pipe(bytes, piece.max(bytes.len() / 2000)));
+    }
+    fs::write(path, bytes).map_err(|error| format!("{}: {error}", path.display()))?;
+    Ok(Input::File(path))
 }
 
 pub struct Ran {

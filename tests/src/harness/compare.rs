@@ -1,19 +1,17 @@
 //! `model compare`: files made in every way, played by the program and by the model, the texts
 //! compared byte for byte; demand 3 watched on the runs behind the files.
 
-use std::fs;
 use std::path::Path;
 
-use super::child::{self, Input};
+use super::child;
 use super::forward::{self, Choice};
 use super::random::Random;
 use super::tally::Tally;
 use super::watch::Watch;
-use super::ways::{Case, End, Way};
+use super::ways::{Case, Way};
 use super::workers;
 use crate::bus::{Bus, Phase, Record};
 use crate::player;
-use crate::transcript;
 
 pub struct Options<'a> {
     pub program: &'a Path,
@@ -64,14 +62,8 @@ fn one_file(options: &Options, index: u64, path: &Path, tally: &mut Tally) -> Re
     watch(&case, &mut random, tally)
         .map_err(|why| fail(format!("{why}\nactions:\n{}", list(&case.records))))?;
 
-    // Mostly from a file; now and then through a pipe, in odd pieces.
-    let ran = if index % 4 == 3 {
-        let piece = random.pick(&[1, 7, 511, 512, 513, 4096]).max(case.bytes.len() / 2000);
-        child::run(options.program, &[], Input::Pipe(&case.bytes, piece), text.len() + 65_536)
-    } else {
-        fs::write(path, &case.bytes).map_err(|error| fail(error.to_string()))?;
-        child::run(options.program, &[], Input::File(path), text.len() + 65_536)
-    };
+    let input = child::input(&case.bytes, index, path, &mut random).map_err(fail)?;
+    let ran = child::run(options.program, &[], input, text.len() + 65_536);
     let ran = ran.map_err(|error| fail(format!("the program could not be run: {error}")))?;
     if let Some(difference) = child::difference(&ran, &text) {
         return Err(fail(difference));
@@ -82,20 +74,7 @@ fn one_file(options: &Options, index: u64, path: &Path, tally: &mut Tally) -> Re
 
 /// The model's own text: as the way of the file says, and the same from a stream.
 fn check_model(case: &Case, text: &[u8]) -> Result<(), String> {
-    let mut last = Vec::new();
-    match case.end {
-        End::Done { accepted } => transcript::done(&mut last, accepted as u64),
-        End::Refused { accepted, number } => last = format!("refused {accepted} {number}\n").into(),
-        End::Either => (),
-    }
-    if !text.ends_with(&last) {
-        let printed = text[..text.len() - 1].rsplit(|&byte| byte == b'\n').next().unwrap_or(text);
-        return Err(format!(
-            "the MODEL ends with '{}', and should with '{}'",
-            String::from_utf8_lossy(printed),
-            String::from_utf8_lossy(&last).trim_end()
-        ));
-    }
+    case.end.of(text)?;
     let mut streamed = Vec::new();
     player::play_stream(&mut &case.bytes[..], &mut streamed).map_err(|error| error.to_string())?;
     if streamed != text {

@@ -2,17 +2,16 @@
 //! through `list`, and all of them through the model. What they write to standard output and
 //! standard error is compared byte for byte.
 
-use std::collections::BTreeMap;
-use std::fs;
 use std::io::{self, Write};
 use std::path::Path;
 
 use super::child::{self, Input, Ran};
+use super::hits::{self, Hits};
 use super::random::Random;
 use super::tally;
 use super::texts::{aims, TextCase, TextWay};
-use super::ways::{self, Way};
-use super::workers::{self, Merge};
+use super::ways::{End, Way, UNPLAYED};
+use super::workers;
 use crate::notation::{self, Complaint};
 use crate::runfile::BLOCK;
 
@@ -26,36 +25,23 @@ pub struct Options<'a> {
     pub only: Option<u64>,
 }
 
-/// Numbers of document 01 that end a listing.
-const LISTED: [u8; 11] = [1, 2, 3, 4, 5, 6, 8, 9, 10, 11, 13];
-
 /// Listings that end without a refusal.
 const WHOLE: &str = "listing of a whole file, composed again";
 const LABELLED: &str = "listing of a whole file with labels, composed again";
 
-type Tally = BTreeMap<String, u64>;
-
-impl Merge for Tally {
-    fn merge(&mut self, other: Tally) {
-        for (name, count) in other {
-            *self.entry(name).or_default() += count;
-        }
-    }
-}
-
 /// What the texts and files must hit.
 fn all_aims() -> Vec<String> {
-    let listed = LISTED.iter().map(|number| format!("listing refused by {number}"));
+    let listed = UNPLAYED.iter().map(|number| format!("listing refused by {number}"));
     let whole = [WHOLE, LABELLED].map(String::from);
     aims::aims().into_iter().chain(listed).chain(whole).collect()
 }
 
 pub fn compare_text(options: &Options) -> Result<String, String> {
     let items = workers::items(options.files, options.only);
-    let total = workers::each(items, |index, path, tally: &mut Tally| {
-        one_text(options, index, path, tally)?;
+    let total = workers::each(items, |index, path, hits: &mut Hits| {
+        one_text(options, index, path, hits)?;
         match index % 3 {
-            0 => one_file(options, index, path, tally),
+            0 => one_file(options, index, path, hits),
             _ => Ok(()),
         }
     })?;
@@ -64,35 +50,12 @@ pub fn compare_text(options: &Options) -> Result<String, String> {
     }
     without_end(options.compose)?;
     beyond_a_run_file(options.compose)?;
-    let count = |name: &String| total.get(name).copied().unwrap_or(0);
-    let aims = all_aims();
-    let lines: String = aims.iter().map(|name| format!("  {:>7}  {name}\n", count(name))).collect();
     let (texts, files) = (options.files, options.files.div_ceil(3));
-    let text = format!("{texts} texts, {files} run files; hit:\n{lines}");
-    let missing: Vec<_> = aims.iter().filter(|name| count(name) == 0).cloned().collect();
-    match missing.is_empty() {
-        true => Ok(text + "equal throughout; all of these were hit\n"),
-        false => Err(format!("{text}not hit: {}: more files?", missing.join("; "))),
-    }
-}
-
-/// These bytes for a program: mostly in a file, now and then through a pipe in odd pieces.
-fn input<'a>(
-    bytes: &'a [u8],
-    index: u64,
-    path: &'a Path,
-    random: &mut Random,
-) -> Result<Input<'a>, String> {
-    if index % 4 == 3 {
-        let piece = random.pick(&[1, 2, 7, 255, 256, 257, 512, 4096]).max(bytes.len() / 2000);
-        return Ok(Input::Pipe(bytes, piece));
-    }
-    fs::write(path, bytes).map_err(|error| format!("{}: {error}", path.display()))?;
-    Ok(Input::File(path))
+    hits::account(&total, &all_aims(), &format!("{texts} texts, {files} run files"))
 }
 
 /// Runs a program that should write this much to standard output.
-fn run(program: &Path, arguments: &[&str], input: Input, length: usize) -> Result<Ran, String> {
+pub fn run(program: &Path, arguments: &[&str], input: Input, length: usize) -> Result<Ran, String> {
     child::run(program, arguments, input, length + 65_536)
         .map_err(|error| format!("{} could not be run: {error}", program.display()))
 }
@@ -129,12 +92,12 @@ fn difference(ran: &Ran, output: &[u8], errors: &[u8]) -> Option<String> {
 }
 
 /// The same for a program that writes lines: where they differ.
-fn difference_of_lines(ran: &Ran, output: &[u8], errors: &[u8]) -> Option<String> {
+pub fn difference_of_lines(ran: &Ran, output: &[u8], errors: &[u8]) -> Option<String> {
     let why = difference(ran, output, errors)?;
     Some(format!("{why}; {}", child::difference(ran, output).unwrap_or_default()))
 }
 
-fn one_text(options: &Options, index: u64, path: &Path, tally: &mut Tally) -> Result<(), String> {
+fn one_text(options: &Options, index: u64, path: &Path, hits: &mut Hits) -> Result<(), String> {
     let mut random = Random::of(options.seed.rotate_left(17), index);
     let ways = TextWay::all();
     let way = ways[index as usize % ways.len()];
@@ -152,7 +115,7 @@ fn one_text(options: &Options, index: u64, path: &Path, tally: &mut Tally) -> Re
     made.check(&case).map_err(fail)?;
     let errors =
         made.complaint.as_ref().map_or(String::new(), |complaint| format!("{complaint}\n"));
-    let input = input(&case.text, index, path, &mut random).map_err(fail)?;
+    let input = child::input(&case.text, index, path, &mut random).map_err(fail)?;
     let ran = run(options.compose, &[], input, made.file.len()).map_err(fail)?;
     if let Some(why) = difference(&ran, &made.file, errors.as_bytes()) {
         return Err(fail(format!("COMPOSE: {why}")));
@@ -162,7 +125,7 @@ fn one_text(options: &Options, index: u64, path: &Path, tally: &mut Tally) -> Re
         return Err(fail(format!("COMPOSE --lines: {why}")));
     }
     for name in aims::hits(&case.text, &made.file, made.complaint.as_ref()) {
-        *tally.entry(name).or_default() += 1;
+        hits.enter(name);
     }
     Ok(())
 }
@@ -212,7 +175,7 @@ impl Made {
 }
 
 /// A run file made in one of the ways of `compare`, listed; if it is whole, composed again.
-fn one_file(options: &Options, index: u64, path: &Path, tally: &mut Tally) -> Result<(), String> {
+fn one_file(options: &Options, index: u64, path: &Path, hits: &mut Hits) -> Result<(), String> {
     let mut random = Random::of(!options.seed.rotate_left(17), index);
     let ways = Way::all();
     let way = ways[(index / 3) as usize % ways.len()];
@@ -228,38 +191,37 @@ fn one_file(options: &Options, index: u64, path: &Path, tally: &mut Tally) -> Re
         )
     };
     let ended = tally::last_refusal(&text);
-    let right = match case.end {
-        // What a listing does not look at.
-        ways::End::Done { .. } | ways::End::Refused { number: 7, .. } => ended.is_none(),
-        ways::End::Refused { accepted, number } => {
+    let right = match case.end_unplayed() {
+        End::Done { .. } => ended.is_none(),
+        End::Refused { accepted, number } => {
             text.ends_with(format!("refused {accepted} {number}\n").as_bytes())
         }
-        ways::End::Either => true,
+        End::Either => true,
     };
     if !right {
         return Err(fail(format!("the MODEL's listing ends by {ended:?}")));
     }
-    let bytes = input(&case.bytes, index + index / 3, path, &mut random).map_err(fail)?;
+    let bytes = child::input(&case.bytes, index + index / 3, path, &mut random).map_err(fail)?;
     let ran = run(options.list, &[], bytes, text.len()).map_err(fail)?;
     if let Some(why) = difference_of_lines(&ran, &text, b"") {
         return Err(fail(format!("LIST: {why}")));
     }
     match ended {
         Some(number) => {
-            *tally.entry(format!("listing refused by {number}")).or_default() += 1;
+            hits.enter(format!("listing refused by {number}"));
         }
         None => {
             if notation::compose(&text) != (case.bytes.clone(), Ok(())) {
                 return Err(fail("the MODEL does not compose its listing to the same file".into()));
             }
-            let listing = input(&ran.text, index, path, &mut random).map_err(fail)?;
+            let listing = child::input(&ran.text, index, path, &mut random).map_err(fail)?;
             let ran = run(options.compose, &[], listing, case.bytes.len()).map_err(fail)?;
             if let Some(why) = difference(&ran, &case.bytes, b"") {
                 return Err(fail(format!("COMPOSE of the listing: {why}")));
             }
-            *tally.entry(WHOLE.into()).or_default() += 1;
+            hits.enter(WHOLE);
             if text.windows(7).any(|part| part == b" label ") {
-                *tally.entry(LABELLED.into()).or_default() += 1;
+                hits.enter(LABELLED);
             }
         }
     }

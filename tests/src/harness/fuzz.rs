@@ -53,7 +53,8 @@ fn wrong_form(text: &[u8]) -> Option<String> {
     (count != 1 || !last).then(|| "not exactly one last line".into())
 }
 
-fn make(random: &mut Random) -> Vec<u8> {
+/// Random bytes, sealed noise, or a mutated file.
+pub fn make(random: &mut Random) -> Vec<u8> {
     match random.below(5) {
         0 => {
             let length = match random.below(4) {

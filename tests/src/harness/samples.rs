@@ -1,5 +1,5 @@
-//! `model runs`: the sample runs of a directory. Each is there three times: NAME.txt in plain words,
-//! NAME.run as a run file, NAME.out as it is printed.
+//! `model runs`: the sample runs of a directory. Each is there four times: NAME.txt in plain words,
+//! NAME.run as a run file, NAME.out as it is printed, NAME.sums as its blocks are summed.
 
 use std::collections::BTreeSet;
 use std::fs;
@@ -11,6 +11,7 @@ pub struct Programs {
     pub play: PathBuf,
     pub compose: PathBuf,
     pub list: PathBuf,
+    pub sums: PathBuf,
 }
 
 /// One sample.
@@ -19,16 +20,17 @@ pub struct Sample {
     pub text: Vec<u8>,
     pub run: Vec<u8>,
     pub printed: Vec<u8>,
+    pub sums: Vec<u8>,
 }
 
-/// The samples of a directory, by name; every one must be there three times.
+/// The samples of a directory, by name; every one must be there four times.
 pub fn read(directory: &Path) -> Result<Vec<Sample>, String> {
     let fail = |path: &Path, error: std::io::Error| format!("{}: {error}", path.display());
     let mut names = BTreeSet::new();
     for entry in fs::read_dir(directory).map_err(|error| fail(directory, error))? {
         let path = entry.map_err(|error| fail(directory, error))?.path();
         let ending = path.extension().and_then(|ending| ending.to_str());
-        if matches!(ending, Some("txt" | "run" | "out")) {
+        if matches!(ending, Some("txt" | "run" | "out" | "sums")) {
             names.extend(path.file_stem().and_then(|name| name.to_str()).map(String::from));
         }
     }
@@ -41,6 +43,7 @@ pub fn read(directory: &Path) -> Result<Vec<Sample>, String> {
             text: part("txt")?,
             run: part("run")?,
             printed: part("out")?,
+            sums: part("sums")?,
             name: name.clone(),
         })
     };
@@ -53,7 +56,7 @@ pub fn check(directory: &Path, programs: &Programs) -> Result<(), String> {
     let mut failed = 0;
     for sample in &samples {
         match check_one(sample, programs) {
-            Ok(()) => println!("{}: composed, played and listed as it stands", sample.name),
+            Ok(()) => println!("{}: composed, played, listed and summed as it stands", sample.name),
             Err(why) => {
                 println!("{}: DIFFERS: {why}", sample.name);
                 failed += 1;
@@ -73,6 +76,8 @@ fn check_one(sample: &Sample, programs: &Programs) -> Result<(), String> {
     same("COMPOSE of the .txt is not the .run", &composed, &sample.run)?;
     let printed = run(&programs.play, &sample.run)?;
     same("PLAY of the .run is not the .out", &printed, &sample.printed)?;
+    let summed = run(&programs.sums, &sample.run)?;
+    same("SUMS of the .run is not the .sums", &summed, &sample.sums)?;
     let listed = run(&programs.list, &sample.run)?;
     let again = run(&programs.compose, &listed)?;
     same("COMPOSE of LIST of the .run is not the .run", &again, &sample.run)

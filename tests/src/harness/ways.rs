@@ -13,6 +13,9 @@ use crate::runfile::{self, BLOCK, FULL};
 pub use closed::Closed;
 pub use damage::Damage;
 
+/// Numbers that can end a file whose actions are looked at and not played.
+pub const UNPLAYED: [u8; 11] = [1, 2, 3, 4, 5, 6, 8, 9, 10, 11, 13];
+
 /// A file, the list of actions behind it, and how it must end.
 pub struct Case {
     pub n: u8,
@@ -32,6 +35,33 @@ pub enum End {
     },
     /// Damage without a plan.
     Either,
+}
+
+impl Case {
+    /// How it must end where actions are looked at and not played: 7 is passed over.
+    pub fn end_unplayed(&self) -> End {
+        match self.end {
+            End::Refused { number: 7, .. } => End::Done { accepted: self.records.len() },
+            end => end,
+        }
+    }
+}
+
+impl End {
+    /// Whether the MODEL's text ends like this.
+    pub fn of(self, text: &[u8]) -> Result<(), String> {
+        let last = match self {
+            End::Done { accepted } => format!("done {accepted}"),
+            End::Refused { accepted, number } => format!("refused {accepted} {number}"),
+            End::Either => return Ok(()),
+        };
+        if text.ends_with(format!("{last}\n").as_bytes()) {
+            return Ok(());
+        }
+        let text = String::from_utf8_lossy(text);
+        let line = text.lines().next_back().unwrap_or_default();
+        Err(format!("the MODEL ends with '{line}', and should with '{last}'"))
+    }
 }
 
 #[derive(Clone, Copy, PartialEq, Eq, Debug)]

@@ -1,0 +1,39 @@
+//! What was hit, by name, and how often.
+
+use std::collections::BTreeMap;
+
+use super::workers::Merge;
+
+#[derive(Default)]
+pub struct Hits(BTreeMap<String, u64>);
+
+impl Hits {
+    /// One more of this name.
+    pub fn enter(&mut self, name: impl Into<String>) {
+        *self.0.entry(name.into()).or_default() += 1;
+    }
+
+    fn count(&self, name: &str) -> u64 {
+        self.0.get(name).copied().unwrap_or(0)
+    }
+}
+
+impl Merge for Hits {
+    fn merge(&mut self, other: Hits) {
+        for (name, count) in other.0 {
+            *self.0.entry(name).or_default() += count;
+        }
+    }
+}
+
+/// What was compared, and how often each aim was hit; a failure if one was not.
+pub fn account(hits: &Hits, aims: &[String], compared: &str) -> Result<String, String> {
+    let line = |name: &String| format!("  {:>7}  {name}\n", hits.count(name));
+    let lines: String = aims.iter().map(line).collect();
+    let text = format!("{compared}; hit:\n{lines}");
+    let missing: Vec<_> = aims.iter().filter(|name| hits.count(name) == 0).cloned().collect();
+    match missing.is_empty() {
+        true => Ok(text + "equal throughout; all of these were hit\n"),
+        false => Err(format!("{text}not hit: {}: more files?", missing.join("; "))),
+    }
+}
