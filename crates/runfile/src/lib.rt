@@ -231,12 +231,12 @@ pub fn action_sums(block: &[u8]) -> [u32; 31]
         return sums;
     }
     let count = block[4] as usize;
-    let mut sum: u32 = 0;
+    let mut so_far: u32 = 0;
     let mut k: usize = 0;
     while k < count {
         let at = 14 + 16 * k;
-        sum += weighed(&block[at..at + 16], at as u32);
-        sums[k] = sum % MODULUS;
+        so_far += weighed(&block[at..at + 16], at as u32);
+        sums[k] = so_far % MODULUS;
         k += 1;
     }
     sums
@@ -289,7 +289,7 @@ fn store_bytes(out: &mut [u8], at: usize, bytes: &[u8])
     }
 }
 
-// What the actions of a block give when they are taken: 0 or the number of the first refusal, the sum of all their bytes, and the sums of the first k.
+// What the actions of a block give when they are taken: 0 or the number of the first refusal, the sum of all bytes taken, and the sums for tracing.
 struct Summed {
     refusal: u8,
     sum: u32,
@@ -312,8 +312,8 @@ fn take_actions(block: &mut [u8], n: u8, records: &[u8], count: usize) -> Summed
         let Decoded::Accepted(_) = d else {
             return Summed {
                 refusal: number(d),
-                sum: 0,
-                sums: [0u32; 31],
+                sum: sum,
+                sums: sums,
             };
         };
         store_bytes(block, 14 + from, &records[from..from + 16]);
@@ -344,7 +344,7 @@ fn store_head(block: &mut [u8], number: u32, n: u8, records: &[u8], sum: u32)
 }
 
 // Writes a block of the action records whose bytes are given; or refuses, and leaves the lent buffer as it was.
-// The actions are gone through once and their count is needed last, so the block is put together in 512 bytes of its own. They go into the buffer when nothing is left that could be refused.
+// 8, 1 and 11 are looked at before the first store, and each action before its own. All stores go into 512 bytes of the writer's own, which become the buffer's when nothing is left that could be refused.
 pub fn write_block(out: &mut [u8], number: u32, n: u8, records: &[u8]) -> Traced
     ensures { λ r. ⌜ r .refusal ≡ writeNumber (length (now (out .entry))) n (now (records .entry)) ⌝ }
     ensures { λ r. ⌜ now (out .exit) ≡ written (r .refusal) (now (out .entry)) (blockWith number n (now (records .entry))) ⌝ }

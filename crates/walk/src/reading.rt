@@ -38,10 +38,7 @@ pub fn after(n: u8, stage: Stage, end: usize) -> Fed
     ensures { λ r. ⌜ r ≡ fedWith n stage end ⌝ }
 {
     Fed {
-        reading: Reading {
-            n: n,
-            stage: stage,
-        },
+        reading: Reading { n: n, stage: stage },
         end: end,
         ended: order::is_ended(stage),
     }

@@ -13,11 +13,11 @@ use Rattle.runfile.proofs.action_sums.Statement.{statement}
 use Rattle.runfile.proofs.action_sums.Tie as tie
 
 abbrev Inv-loop : tie.InvT-loop
-Inv-loop block sums₀ count sum₀ k₀ sums sum k =
-    (k ≤ count) × (count ≤ 31) × (length block ≡ 512) × Sums (drop 14 block) k sum sums
+Inv-loop block sums₀ count so-far₀ k₀ sums so-far k =
+    (k ≤ count) × (count ≤ 31) × (length block ≡ 512) × Sums (drop 14 block) k so-far sums
 
 abbrev μ-loop : tie.MeasureT-loop
-μ-loop block sums₀ count sum₀ k₀ sums sum k = count - k
+μ-loop block sums₀ count so-far₀ k₀ sums so-far k = count - k
 
 count-fits-requires : tie.Need-count-fits-requires Inv-loop μ-loop
 count-fits-requires c κs = search needs
@@ -66,8 +66,8 @@ weighed-requires c κs =
     let n : length (take 16 (drop (14 + 16 * l .k) s)) ≡ 16 = length-take-le 16 (drop (14 + 16 * l .k) s) (simp length-drop (search needs)) in
     rw (e, n) (search needs)
 
-add-sum : tie.Need-add-sum Inv-loop μ-loop
-add-sum c =
+add-so-far : tie.Need-add-so-far Inv-loop μ-loop
+add-so-far c =
     let l = c .before .before .before .loop in
     let s = c .before .before .before .before .before .before .before .before .args .block .now in
     let e : 14 + 16 * l .k + 16 - (14 + 16 * l .k) ≡ 16 = omega arith in
@@ -123,7 +123,7 @@ action-sums-spec =
     part-weighed-end
     cast-weighed
     weighed-requires
-    add-sum
+    add-so-far
     mul-sums
     array-write-sums
     add-k

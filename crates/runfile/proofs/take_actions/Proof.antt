@@ -65,8 +65,7 @@ returns c =
     let g = c .before .before .before .before .before .before .before .before .before .before .args in
     let act = rw tail-part at (c .before .before .before .before .read-action .ensures) in
     let d = c .before .before .before .decode .ensures in
-    let told = c .before .enum-told2 .given .1 in
-    (
+    let told = c .before .enum-told2 .given .1 in (
       sym (l .inv .2 ∙ rw (records-more (g .records .now) (g .count) (l .k) (c .before .before .before .before .before .before .loop-test .taken), ← act, ← d, c .number .ensures, told)),
       λ z. absurd (never-zero _ _ (sym d ∙ (told ∙ ap D.Refused (sym (rw told at (c .number .ensures)) ∙ z)))),
     )
@@ -147,8 +146,7 @@ loop-again c =
     let act = rw tail-part at (c .before .before .before .before .before .before .before .before .before .before .read-action .ensures) in
     let d = c .before .before .before .before .before .before .before .before .before .decode .ensures in
     let e : 16 * l .k + 16 - 16 * l .k ≡ 16 = omega arith in
-    let fits : 16 * (l .k + 1) ≤ length r = search needs in
-    (
+    let fits : 16 * (l .k + 1) ≤ length r = search needs in (
       search needs,
       search needs,
       l .inv .2 ∙ rw (records-more r (g .count) (l .k) more, ← act, ← d, c .before .before .before .before .before .before .before .enum-told .given .1),
@@ -165,8 +163,7 @@ returns-2 c =
     let g = c .before .before .before .before .args in
     let r = g .records .now in
     let k : l .k ≡ g .count = omega arith in
-    let all : take (16 * g .count) r ≡ r = take-all (16 * g .count) r (search needs) in
-    (
+    let all : take (16 * g .count) r ≡ r = take-all (16 * g .count) r (search needs) in (
       sym (l .inv .2 ∙ rw (records-none r (g .count) (l .k) (c .loop-test .left))),
       λ z. record {
         stored = rw (k, all) at (l .inv .3);

@@ -69,13 +69,12 @@ returns-3 c =
     let taken = c .before .before .before .before .before .before .before .before .before .before .before .before .take-actions .ensures in
     let all = c .before .before .before .before .before .before .before .before .before .if2 .left in
     let number = rw (eq-eqb _ _ good) at (called .0) in
-    let block = block-length (a .number) (a .n) (a .records .now) whole in
-    (
+    let block = block-length (a .number) (a .n) (a .records .now) whole in (
       sym (number ∙ (sym (taken .0) ∙ all)),
       (
         rw (c .before .before .before .store-bytes .ensures, c .before .before .before .before .before .before .before .store-head .ensures) (whole-stored (a .out .now) _ (block ∙ sym (called .1 good .0))),
-        taken .1 all .each ∙ sym (block-sums (a .number) (a .n) (a .records .now) whole)
-      )
+        taken .1 all .each ∙ sym (block-sums (a .number) (a .n) (a .records .now) whole),
+      ),
     )
 
 pub write-block-spec : {M : Type 1} → statement M

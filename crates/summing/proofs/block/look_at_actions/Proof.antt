@@ -85,8 +85,7 @@ loop-again c =
     let found : act ≡ actionAt (drop (14 + 16 * l .k) (a .piece .now)) = rw tail-part at (c .before .before .before .read-action .ensures) in
     let more = c .before .before .before .before .before .loop-test .taken in
     let yes : eqb (looked .result) 0 ≡ true = eq-eqb (looked .result) 0 (c .if1 .left) in
-    let next : a .first + (l .k + 1) ≡ suc (a .first + l .k) = omega arith in
-    (
+    let next : a .first + (l .k + 1) ≡ suc (a .first + l .k) = omega arith in (
       search needs,
       search needs,
       l .inv .2 ∙ rw (left-more (a .count) (l .k) (a .piece .now) (omega (arith, more, l .inv .1)), ← found, ← number, yes, next),

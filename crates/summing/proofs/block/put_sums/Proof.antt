@@ -61,8 +61,7 @@ loop-again c =
     let gap = puts-in {buf = l .out} {at = l .end} {text = 32 ∷ []} 1 (omega (arith, l .inv .2, l .inv .1, l .inv .0)) (space .ensures .0) (space .ensures .1) in
     let few : l .k < length sums = omega (arith, c .before .before .before .before .before .before .before .loop-test .taken, l .inv .1, c .before .before .before .before .before .before .before .before .before .before .before .pre .0, c .before .before .before .before .before .before .before .before .before .before .before .pre .1) in
     let still : length (space .last .0) ≡ 2048 = search needs in
-    let figure = puts-in {buf = space .last .0} {at = space .result} {text = decimal (c .before .wide .result)} 20 (omega (arith, gap .ends, l .inv .2)) (put .1 .0) (put .1 .1) in
-    (
+    let figure = puts-in {buf = space .last .0} {at = space .result} {text = decimal (c .before .wide .result)} 20 (omega (arith, gap .ends, l .inv .2)) (put .1 .0) (put .1 .1) in (
       search needs,
       search needs,
       omega (arith, put .0, gap .ends, l .inv .2),
