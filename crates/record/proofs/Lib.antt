@@ -1,3 +1,4 @@
 pub mod Little
 pub mod Round
 pub mod Walk
+pub mod Clean

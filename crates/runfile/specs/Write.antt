@@ -66,8 +66,8 @@ written number old new = cond (eqb number N.accepted) new old
 abbrev pub sumsGiven : ℕ → List ℕ → List ℕ
 sumsGiven number block = cond (eqb number N.accepted) (sumsOf block) (zeros 31)
 
--- what the writer has when it took all actions: they stand in the block, their bytes are summed, and so are those of the first k
-pub record Takes (before records : List ℕ) (count : ℕ) (r : Summed) (after : List ℕ) : Type 0 where
-  pub stored : after ≡ sets before 14 records
+-- what the writer has when it took all actions: they stand in a block, their bytes are summed, and so are those of the first k
+pub record Takes (records : List ℕ) (count : ℕ) (r : Summed) : Type 0 where
+  pub stored : r .block ≡ sets (zeros 512) 14 records
   pub summed : r .sum ≡ weigh 14 records
   pub each : r .sums ≡ sumsFor count records

@@ -289,20 +289,21 @@ fn store_bytes(out: &mut [u8], at: usize, bytes: &[u8])
     }
 }
 
-// What the actions of a block give when they are taken: 0 or the number of the first refusal, the sum of all bytes taken, and the sums for tracing.
+// What the actions of a block give when they are taken: 0 or the number of the first refusal, a block with nothing but the actions in it, the sum of their bytes, and the sums for tracing.
 struct Summed {
     refusal: u8,
+    block: [u8; 512],
     sum: u32,
     sums: [u32; 31],
 }
 
 // Takes so many action records in order, up to the first refusal: each is looked at by 2 to 6 (13 after 5), stored from byte 14 on, and summed.
-fn take_actions(block: &mut [u8], n: u8, records: &[u8], count: usize) -> Summed
-    requires { ⌜ length (now block) ≡ 512 ⌝ }
+fn take_actions(n: u8, records: &[u8], count: usize) -> Summed
     requires { ⌜ (count ≤ 31) × (length (now records) ≡ 16 * count) ⌝ }
     ensures { λ r. ⌜ r .refusal ≡ firstRefusal n (actionsOf count (now (records .entry))) ⌝ }
-    ensures { λ r. ⌜ (r .refusal ≡ 0 → Takes (now (block .entry)) (now (records .entry)) count r (now (block .exit))) ⌝ }
+    ensures { λ r. ⌜ (r .refusal ≡ 0 → Takes (now (records .entry)) count r) ⌝ }
 {
+    let mut block: [u8; 512] = [0u8; 512];
     let mut sums: [u32; 31] = [0u32; 31];
     let mut sum: u32 = 0;
     let mut k: usize = 0;
@@ -312,17 +313,19 @@ fn take_actions(block: &mut [u8], n: u8, records: &[u8], count: usize) -> Summed
         let Decoded::Accepted(_) = d else {
             return Summed {
                 refusal: number(d),
+                block: block,
                 sum: sum,
                 sums: sums,
             };
         };
-        store_bytes(block, 14 + from, &records[from..from + 16]);
+        store_bytes(&mut block, 14 + from, &records[from..from + 16]);
         sum += weighed(&records[from..from + 16], (14 + from) as u32);
         sums[k] = sum % MODULUS;
         k += 1;
     }
     Summed {
         refusal: 0,
+        block: block,
         sum: sum,
         sums: sums,
     }
@@ -354,11 +357,11 @@ pub fn write_block(out: &mut [u8], number: u32, n: u8, records: &[u8]) -> Traced
     if refusal != 0 {
         return refused(refusal);
     }
-    let mut block: [u8; 512] = [0u8; 512];
-    let taken = take_actions(&mut block, n, records, records.len() / 16);
+    let taken = take_actions(n, records, records.len() / 16);
     if taken.refusal != 0 {
         return refused(taken.refusal);
     }
+    let mut block = taken.block;
     store_head(&mut block, number, n, records, taken.sum);
     store_bytes(out, 0, &block);
     let sums = taken.sums;

@@ -1,5 +1,5 @@
 -- The turns of this walk: its state is block 0's n, and an accepted action prints nothing. Assumes nothing.
-use mathlib.Core.Path.{_≡_, refl}
+use mathlib.Core.Path.{refl}
 use Rattle.walk.proofs.Nodes.{KeepsN}
 use Rattle.summing.specs.Summed.{tracing}
 

@@ -1,5 +1,5 @@
 -- What is printed of a file's sums. Assumes nothing.
-use mathlib.Core.Path.{_≡_, refl, ap, sym, _∙_}
+use mathlib.Core.Path.{_≡_, refl, sym, _∙_}
 use mathlib.Core.Bool.{Bool, true, false, cond}
 use mathlib.Core.List.{List, [], _∷_, _++_, append-assoc, append-nil}
 use Prim.Native.Nat.{ℕ, suc, _+_}
@@ -24,7 +24,7 @@ use Rattle.runfile.proofs.Parts.{bytes-first, bytes-second}
 use Rattle.runfile.proofs.Pieces.{more-pieces, one-piece}
 use Rattle.runfile.proofs.Stages.{At}
 use Rattle.transcript.specs.Lines.{doneLine}
-use Rattle.walk.specs.Walk.{walking, opened, walkedFrom}
+use Rattle.walk.specs.Walk.{walking, walkedFrom}
 use Rattle.walk.specs.Feeding.{fedText}
 use Rattle.walk.specs.Reading.{started}
 use Rattle.walk.proofs.Files.{later, there, block-text}

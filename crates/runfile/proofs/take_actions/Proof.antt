@@ -8,6 +8,7 @@ use borrow.Author.Needs.{needs}
 use Rattle.charts.specs.declared.Decoded.the-variants as D
 use Rattle.record.specs.Layout.{actionsOf}
 use Rattle.record.proofs.Walk.{tail-part, records-more, records-none}
+use Rattle.runfile.specs.Block.{zeros}
 use Rattle.runfile.specs.Write.{firstRefusal}
 use Rattle.runfile.proofs.Files.{never-zero}
 use Rattle.runfile.proofs.Stored.{action-stored}
@@ -16,15 +17,15 @@ use Rattle.runfile.proofs.take_actions.Statement.{statement}
 use Rattle.runfile.proofs.take_actions.Tie as tie
 
 abbrev Inv-loop : tie.InvT-loop
-Inv-loop block₀ n records count sums₀ sum₀ k₀ block sums sum k =
+Inv-loop n records count block₀ sums₀ sum₀ k₀ block sums sum k =
     (k ≤ count)
-    × (length block ≡ length block₀)
+    × (length block ≡ 512)
     × (firstRefusal n (actionsOf count records) ≡ firstRefusal n (actionsOf (count - k) (drop (16 * k) records)))
-    × (block ≡ sets block₀ 14 (take (16 * k) records))
+    × (block ≡ sets (zeros 512) 14 (take (16 * k) records))
     × Sums records k sum sums
 
 abbrev μ-loop : tie.MeasureT-loop
-μ-loop block₀ n records count sums₀ sum₀ k₀ block sums sum k = count - k
+μ-loop n records count block₀ sums₀ sum₀ k₀ block sums sum k = count - k
 
 loop-holds : tie.Need-loop-holds Inv-loop μ-loop
 loop-holds c = (search needs, search needs, rw sub-zero, refl, none _)
@@ -56,19 +57,19 @@ enum-told-2 c = search needs
 number-requires : tie.Need-number-requires Inv-loop μ-loop
 number-requires c κs = search needs
 
-same-length : tie.Need-same-length Inv-loop μ-loop
-same-length c = search needs
-
 returns : tie.Need-returns Inv-loop μ-loop
 returns c =
     let l = c .before .before .before .before .before .before .before .loop in
-    let g = c .before .before .before .before .before .before .before .before .before .before .args in
+    let g = c .before .before .before .before .before .before .before .before .before .args in
     let act = rw tail-part at (c .before .before .before .before .read-action .ensures) in
     let d = c .before .before .before .decode .ensures in
     let told = c .before .enum-told2 .given .1 in (
       sym (l .inv .2 ∙ rw (records-more (g .records .now) (g .count) (l .k) (c .before .before .before .before .before .before .loop-test .taken), ← act, ← d, c .number .ensures, told)),
       λ z. absurd (never-zero _ _ (sym d ∙ (told ∙ ap D.Refused (sym (rw told at (c .number .ensures)) ∙ z)))),
     )
+
+slice-aggregate-store-bytes : tie.Need-slice-aggregate-store-bytes Inv-loop μ-loop
+slice-aggregate-store-bytes c = search needs
 
 add-store-bytes : tie.Need-add-store-bytes Inv-loop μ-loop
 add-store-bytes c = search needs
@@ -88,7 +89,7 @@ part-store-bytes-end c = search needs
 store-bytes-requires : tie.Need-store-bytes-requires Inv-loop μ-loop
 store-bytes-requires c κs =
     let l = c .before .before .before .before .before .before .before .before .loop in
-    let r = c .before .before .before .before .before .before .before .before .before .before .before .args .records .now in
+    let r = c .before .before .before .before .before .before .before .before .before .before .args .records .now in
     let e : 16 * l .k + 16 - 16 * l .k ≡ 16 = omega arith in
     rw (e, row-length r (l .k) (search needs)) (search needs)
 
@@ -112,17 +113,17 @@ cast-weighed c = search needs
 
 weighed-requires : tie.Need-weighed-requires Inv-loop μ-loop
 weighed-requires c κs =
-    let l = c .before .before .before .before .before .before .before .before .before .before .before .before .loop in
-    let r = c .before .before .before .before .before .before .before .before .before .before .before .before .before .before .before .args .records .now in
+    let l = c .before .before .before .before .before .before .before .before .before .before .before .loop in
+    let r = c .before .before .before .before .before .before .before .before .before .before .before .before .before .args .records .now in
     let e : 16 * l .k + 16 - 16 * l .k ≡ 16 = omega arith in
     rw (e, row-length r (l .k) (search needs)) (search needs)
 
 add-sum : tie.Need-add-sum Inv-loop μ-loop
 add-sum c =
-    let l = c .before .before .before .before .before .before .before .before .before .before .before .before .before .loop in
-    let r = c .before .before .before .before .before .before .before .before .before .before .before .before .before .before .before .before .args .records .now in
+    let l = c .before .before .before .before .before .before .before .before .before .before .before .before .loop in
+    let r = c .before .before .before .before .before .before .before .before .before .before .before .before .before .before .args .records .now in
     let e : 16 * l .k + 16 - 16 * l .k ≡ 16 = omega arith in
-    let b = sum-small r (l .k) (λ (i : ℕ). omega (arith, c .before .before .before .before .before .before .before .before .before .before .before .before .before .before .shared-slice-known .given i)) (search needs) (search needs) in
+    let b = sum-small r (l .k) (λ (i : ℕ). omega (arith, c .before .before .before .before .before .before .before .before .before .before .before .before .before .shared-slice-known .given i)) (search needs) (search needs) in
     omega (arith, l .inv .4 .so-far, rw (e, row-length r (l .k) (search needs)) at (c .weighed .ensures .1))
 
 mul-sums : tie.Need-mul-sums Inv-loop μ-loop
@@ -139,28 +140,25 @@ loop-less c = search needs
 
 loop-again : tie.Need-loop-again Inv-loop μ-loop
 loop-again c =
-    let l = c .before .before .before .before .before .before .before .before .before .before .before .before .before .loop in
-    let g = c .before .before .before .before .before .before .before .before .before .before .before .before .before .before .before .before .args in
+    let l = c .before .before .before .before .before .before .before .before .before .before .before .before .loop in
+    let g = c .before .before .before .before .before .before .before .before .before .before .before .before .before .before .args in
     let r = g .records .now in
-    let more = c .before .before .before .before .before .before .before .before .before .before .before .before .loop-test .taken in
-    let act = rw tail-part at (c .before .before .before .before .before .before .before .before .before .before .read-action .ensures) in
-    let d = c .before .before .before .before .before .before .before .before .before .decode .ensures in
+    let more = c .before .before .before .before .before .before .before .before .before .before .before .loop-test .taken in
+    let act = rw tail-part at (c .before .before .before .before .before .before .before .before .before .read-action .ensures) in
+    let d = c .before .before .before .before .before .before .before .before .decode .ensures in
     let e : 16 * l .k + 16 - 16 * l .k ≡ 16 = omega arith in
     let fits : 16 * (l .k + 1) ≤ length r = search needs in (
       search needs,
       search needs,
-      l .inv .2 ∙ rw (records-more r (g .count) (l .k) more, ← act, ← d, c .before .before .before .before .before .before .before .enum-told .given .1),
-      rw (c .before .before .before .before .store-bytes .ensures, e, l .inv .3) (action-stored (g .block .now) r (l .k) fits),
+      l .inv .2 ∙ rw (records-more r (g .count) (l .k) more, ← act, ← d, c .before .before .before .before .before .before .enum-told .given .1),
+      rw (c .before .before .before .store-bytes .ensures, e, l .inv .3) (action-stored (zeros 512) r (l .k) fits),
       rw (c .weighed .ensures .0, e) (one-more r (l .k) fits (l .inv .4) (search needs)),
     )
-
-same-length-2 : tie.Need-same-length-2 Inv-loop μ-loop
-same-length-2 c = search needs
 
 returns-2 : tie.Need-returns-2 Inv-loop μ-loop
 returns-2 c =
     let l = c .before .loop in
-    let g = c .before .before .before .before .args in
+    let g = c .before .before .before .args in
     let r = g .records .now in
     let k : l .k ≡ g .count = omega arith in
     let all : take (16 * g .count) r ≡ r = take-all (16 * g .count) r (search needs) in (
@@ -188,8 +186,8 @@ take-actions-spec =
     enum-told
     enum-told-2
     number-requires
-    same-length
     returns
+    slice-aggregate-store-bytes
     add-store-bytes
     add-store-bytes-2
     sub-store-bytes
@@ -209,5 +207,4 @@ take-actions-spec =
     add-k
     loop-less
     loop-again
-    same-length-2
     returns-2)

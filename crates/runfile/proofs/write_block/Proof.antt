@@ -21,14 +21,11 @@ returns c =
     let is = c .refused .ensures .0 in
     (is ∙ sym (rw no at (c .before .before .call-number .ensures .0)), (rw (is, no), rw (is, no) (c .refused .ensures .1)))
 
-slice-aggregate-take-actions : tie.Need-slice-aggregate-take-actions
-slice-aggregate-take-actions c = search needs
-
 take-actions-requires : tie.Need-take-actions-requires
 take-actions-requires c κs =
-    let whole = c .before .before .call-number .ensures .1 (c .before .if1 .left) .1 in
-    let size = length (c .before .before .before .before .before .args .records .now) in
-    (search needs, (omega (arith, records-small size whole), records-all size whole))
+    let whole = c .before .call-number .ensures .1 (c .if1 .left) .1 in
+    let size = length (c .before .before .before .before .args .records .now) in
+    (omega (arith, records-small size whole), records-all size whole)
 
 refused-requires-2 : tie.Need-refused-requires-2
 refused-requires-2 c κs = search needs
@@ -37,16 +34,16 @@ returns-2 : tie.Need-returns-2
 returns-2 c =
     let no = ne-eqb _ _ (c .before .if2 .taken) in
     let is = c .refused2 .ensures .0 in
-    let number = rw (eq-eqb _ _ (c .before .before .before .before .before .before .if1 .left)) at (c .before .before .before .before .before .before .before .call-number .ensures .0) in
-    (is ∙ (c .before .before .before .before .take-actions .ensures .0 ∙ sym number), (rw (is, no), rw (is, no) (c .refused2 .ensures .1)))
+    let number = rw (eq-eqb _ _ (c .before .before .before .before .if1 .left)) at (c .before .before .before .before .before .call-number .ensures .0) in
+    (is ∙ (c .before .before .before .take-actions .ensures .0 ∙ sym number), (rw (is, no), rw (is, no) (c .refused2 .ensures .1)))
 
 slice-aggregate-store-head : tie.Need-slice-aggregate-store-head
 slice-aggregate-store-head c = search needs
 
 store-head-requires : tie.Need-store-head-requires
 store-head-requires c κs =
-    let whole = c .before .before .before .before .before .before .before .call-number .ensures .1 (c .before .before .before .before .before .before .if1 .left) .1 in
-    let took = c .before .before .before .before .take-actions .ensures .1 (c .before .if2 .left) in
+    let whole = c .before .before .before .before .before .before .call-number .ensures .1 (c .before .before .before .before .before .if1 .left) .1 in
+    let took = c .before .before .before .before .take-actions .ensures .1 (c .before .before .if2 .left) in
     (search needs, (took .stored, (records-small _ whole, took .summed)))
 
 slice-aggregate-store-bytes : tie.Need-slice-aggregate-store-bytes
@@ -54,7 +51,7 @@ slice-aggregate-store-bytes c = search needs
 
 store-bytes-requires : tie.Need-store-bytes-requires
 store-bytes-requires c κs =
-    let size = c .before .before .before .before .before .before .before .before .before .before .before .call-number .ensures .1 (c .before .before .before .before .before .before .before .before .before .before .if1 .left) .0 in
+    let size = c .before .before .before .before .before .before .before .before .before .before .call-number .ensures .1 (c .before .before .before .before .before .before .before .before .before .if1 .left) .0 in
     omega (arith, size, c .before .before .before .store-head .kept .0)
 
 same-length : tie.Need-same-length
@@ -62,12 +59,12 @@ same-length c = search needs
 
 returns-3 : tie.Need-returns-3
 returns-3 c =
-    let a = c .before .before .before .before .before .before .before .before .before .before .before .before .before .before .before .before .before .before .args in
-    let called = c .before .before .before .before .before .before .before .before .before .before .before .before .before .before .before .call-number .ensures in
-    let good = c .before .before .before .before .before .before .before .before .before .before .before .before .before .before .if1 .left in
+    let a = c .before .before .before .before .before .before .before .before .before .before .before .before .before .before .before .before .before .args in
+    let called = c .before .before .before .before .before .before .before .before .before .before .before .before .before .before .call-number .ensures in
+    let good = c .before .before .before .before .before .before .before .before .before .before .before .before .before .if1 .left in
     let whole = called .1 good .1 in
     let taken = c .before .before .before .before .before .before .before .before .before .before .before .before .take-actions .ensures in
-    let all = c .before .before .before .before .before .before .before .before .before .if2 .left in
+    let all = c .before .before .before .before .before .before .before .before .before .before .if2 .left in
     let number = rw (eq-eqb _ _ good) at (called .0) in
     let block = block-length (a .number) (a .n) (a .records .now) whole in (
       sym (number ∙ (sym (taken .0) ∙ all)),
@@ -84,7 +81,6 @@ write-block-spec =
     call-number-requires
     refused-requires
     returns
-    slice-aggregate-take-actions
     take-actions-requires
     refused-requires-2
     returns-2

@@ -34,7 +34,7 @@ action-sums-requires c κs = search needs
 put-sums-requires : tie.Need-put-sums-requires
 put-sums-requires c κs =
     let known = rw (c .before .before .before .before .found .given .1) at (c .before .before .before .before .before .before .enter .ensures .1 .1 .0) in
-    (known .1, search needs)
+    (omega (arith, known .1), search needs)
 
 accepted-by-requires : tie.Need-accepted-by-requires
 accepted-by-requires c κs = search needs
