@@ -77,7 +77,10 @@ fn is_clean(a: Action) -> bool
     if kind == 3 {
         return address;
     }
-    both(address, both(either(kind < 5, a.node == 0), both(a.ack == 0, a.hold == 0)))
+    both(
+        address,
+        both(either(kind < 5, a.node == 0), both(a.ack == 0, a.hold == 0)),
+    )
 }
 
 // An address "neither below n nor 63" is 5.

@@ -1,4 +1,4 @@
-// A run file walked from block to block and from action to action: the text that comes of it, whatever is done with each action.
+// A run file walked from block to block and from action to action: the text that comes of it, whatever is done with each block and each action.
 // `player`, `listing` and `summing` are the walks; here is what they have in common.
 pub mod reading;
 

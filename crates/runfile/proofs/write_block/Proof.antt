@@ -1,4 +1,5 @@
 use mathlib.Core.Path.{sym, _∙_}
+use mathlib.Core.Logic.{_≢_}
 use native.Mathlib.Omega.{arith}
 use lib.ListN.{length}
 use borrow.Author.Tests.{eq-eqb, ne-eqb}
@@ -32,7 +33,8 @@ refused-requires-2 c κs = search needs
 
 returns-2 : tie.Need-returns-2
 returns-2 c =
-    let no = ne-eqb _ _ (c .before .if2 .taken) in
+    let off : c .before .before .before .take-actions .result .refusal ≢ 0 = omega (arith, c .before .if2 .taken) in
+    let no = ne-eqb _ _ off in
     let is = c .refused2 .ensures .0 in
     let number = rw (eq-eqb _ _ (c .before .before .before .before .if1 .left)) at (c .before .before .before .before .before .call-number .ensures .0) in
     (is ∙ (c .before .before .before .take-actions .ensures .0 ∙ sym number), (rw (is, no), rw (is, no) (c .refused2 .ensures .1)))
@@ -43,7 +45,7 @@ slice-aggregate-store-head c = search needs
 store-head-requires : tie.Need-store-head-requires
 store-head-requires c κs =
     let whole = c .before .before .before .before .before .before .call-number .ensures .1 (c .before .before .before .before .before .if1 .left) .1 in
-    let took = c .before .before .before .before .take-actions .ensures .1 (c .before .before .if2 .left) in
+    let took = c .before .before .before .before .take-actions .ensures .1 (omega (arith, c .before .before .if2 .left)) in
     (search needs, (took .stored, (records-small _ whole, took .summed)))
 
 slice-aggregate-store-bytes : tie.Need-slice-aggregate-store-bytes
