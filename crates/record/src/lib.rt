@@ -60,7 +60,8 @@ fn names_address(kind: u8) -> bool
     either(kind == 1, kind == 7)
 }
 
-// Whether the fields that the kind doesn't name, and the record's two zeros, are 0; else it is 3. Kind by kind: most kinds name little, and then few tests are left.
+// Whether the fields that the kind doesn't name, and the record's two zeros, are 0; else it is 3.
+// Kind by kind: most kinds name little, and then few tests are left.
 fn is_clean(a: Action) -> bool
     ensures { λ r. ⌜ r ≡ clean a ⌝ }
 {

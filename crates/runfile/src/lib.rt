@@ -289,7 +289,8 @@ fn store_bytes(out: &mut [u8], at: usize, bytes: &[u8])
     }
 }
 
-// What the actions of a block give when they are taken: 0 or the number of the first refusal, a block with nothing but the actions in it, the sum of their bytes, and the sums for tracing.
+// What the actions of a block give when they are taken: 0 or the number of the first refusal, a block with nothing but the actions in it,
+// the sum of their bytes, and the sums for tracing.
 struct Summed {
     refusal: u8,
     block: [u8; 512],
@@ -331,7 +332,8 @@ fn take_actions(n: u8, records: &[u8], count: usize) -> Summed
     }
 }
 
-// Stores the head of a block in which nothing but its actions stands, whose sum is given. The head is summed last, and the check follows from the two sums.
+// Stores the head of a block in which nothing but its actions stands, whose sum is given.
+// The head is summed last, and the check follows from the two sums.
 fn store_head(block: &mut [u8], number: u32, n: u8, records: &[u8], sum: u32)
     requires { ⌜ length (now block) ≡ 512 ⌝ }
     requires { ⌜ now block ≡ sets (zeros 512) 14 (now records) ⌝ }
@@ -347,7 +349,8 @@ fn store_head(block: &mut [u8], number: u32, n: u8, records: &[u8], sum: u32)
 }
 
 // Writes a block of the action records whose bytes are given; or refuses, and leaves the lent buffer as it was.
-// 8, 1 and 11 are looked at before the first store, and each action before its own. All stores go into 512 bytes of the writer's own, which become the buffer's when nothing is left that could be refused.
+// 8, 1 and 11 are looked at before the first store, and each action before its own. All stores go into 512 bytes of the writer's own,
+// which become the buffer's when nothing is left that could be refused.
 pub fn write_block(out: &mut [u8], number: u32, n: u8, records: &[u8]) -> Traced
     ensures { λ r. ⌜ r .refusal ≡ writeNumber (length (now (out .entry))) n (now (records .entry)) ⌝ }
     ensures { λ r. ⌜ now (out .exit) ≡ written (r .refusal) (now (out .entry)) (blockWith number n (now (records .entry))) ⌝ }
