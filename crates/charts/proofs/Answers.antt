@@ -9,7 +9,7 @@ use lib.Dec.{T, eqb, ltb}
 use borrow.Author.Tests.{eqb-true, eqb-false, ltb-true, eq-eqb, ne-eqb, not-true}
 use Rattle.charts.specs.declared.Seen.the-variants as Sn
 use Rattle.charts.specs.declared.Mode.{Mode}
-use Rattle.charts.specs.declared.Mode.the-variants.{Rest, AckBody, AckEnd, Sending, Answering, Acking, Spurious}
+use Rattle.charts.specs.declared.Mode.the-variants.{Rest, AckBody, AckEnd, Sending, Answering, Acking, Spurious, Asked}
 use Rattle.charts.specs.declared.Signal.{Signal}
 use Rattle.charts.specs.declared.Signal.the-variants.{Start, End, Prefix, Gap, Ack}
 use Rattle.charts.specs.declared.Report.{Report}
@@ -34,18 +34,19 @@ use Rattle.charts.specs.Places.{ackIn}
 use Rattle.charts.specs.Reception.{answer, hears}
 use Rattle.charts.specs.State.{State, setMode, upd, every, some, others, pendings, holders, moved, remarked, fresh}
 use Rattle.charts.specs.Actions.{does, firstOther, nextOther, onward, labelOf, receives, hearing, granted, putsOut, markingBy, answers, markingAtIdle}
+use Rattle.charts.specs.Actions as Actions
 use Rattle.charts.specs.Step.{accepted}
 use Rattle.charts.specs.Demand as Demand
 use Rattle.charts.specs.Demand.{Note, told, gave, Run, none, run, Book, newBook, asks, confirms, note, notes, nodeOf, moves, reports, enters, Acknowledged, Labelled, Honest, AllHonest}
 use Rattle.charts.proofs.Tools.{never, clash, implies, implied, and-true, or-yes, pick, pick-by, at-upd, at-upd≢, upd-same, upd-other, table-at, pairs-at, mem, everyIn, mem-sub, by-test}
 use Rattle.charts.specs.Words as W
 use Rattle.charts.specs.Words.{wordOf}
-use Rattle.charts.proofs.Places.{mode-is, law, law-mode, active, stepOf, ackingAt}
+use Rattle.charts.proofs.Places.{mode-is, law, law-mode, active, stepOf, ackingAt, resting}
 use Rattle.charts.proofs.Payload.{OthersIn, sends, Carry, Tells, told-none, told-good, told-dcrc, told-broad, signal-is, answers-to, past, inRow, in-row, row-in, turn-in, holding-past, carries}
 use Rattle.charts.proofs.Stages.{rowAt, turnAt, quiet, grantSteps, clearSteps, Delivery, BusyAt, talks, clears, Stage}
 use Rattle.charts.proofs.Reach.{Reach, answerers, allBelow, mem-below, low-places, step-place, is-talker, no-turn}
-use Rattle.charts.proofs.Ways.{afterGap, passed-by, Puts, start, dhead, dest, header, datum, end-all, end-one, filler, ack-start, ack-body, ack-hold, ack-end, holds-on, Arrives, passes, redirects, bad-header, bad-data, bad-ack, Effect, waits, replies, wins, loses, gives, puts, frees, arrives, is-lost, grants, grants-none, gaps, settles, resets}
-use Rattle.charts.proofs.Books.{Kept, Runs, ours, By, silent, acks, misses, dropped, good, dcrc, broad, by, conf, leaves, remains, holdOf}
+use Rattle.charts.proofs.Ways.{afterGap, passed-by, Puts, start, dhead, dest, header, datum, end-all, end-one, filler, ack-start, ack-body, ack-hold, ack-end, holds-on, Arrives, passes, redirects, bad-header, bad-data, bad-ack, Effect, waits, replies, wins, loses, gives, puts, frees, arrives, is-lost, grants, grants-none, gaps, settles, resets, at-once, asked, claims}
+use Rattle.charts.proofs.Books.{Kept, Runs, ours, By, silent, acks, misses, dropped, good, dcrc, broad, by, conf, leaves, remains, holdOf, resting-ours}
 
 -- WHAT A NODE SAYS OF A REQUEST, by its mode: nothing; that it was told; the acknowledgement that its user gave
 pub data Voice : Type 0 where
@@ -127,7 +128,7 @@ remarked-heed M.Won s bk v = record { agrees = v .agrees; still = v .still; acke
 remarked-heed (M.Concatenated b) s bk v = record { agrees = v .agrees; still = v .still; acked = v .acked; carried = v .carried; honest = v .honest }
 
 -- VOICES BY PLACES
-by-place : (a b : ℕ → Bool) → T (every (λ p. implies (a p) (b p)) 24) → (m : Mode) → a (placeOf m) ≡ true → b (placeOf m) ≡ true
+by-place : (a b : ℕ → Bool) → T (every (λ p. implies (a p) (b p)) 25) → (m : Mode) → a (placeOf m) ≡ true → b (placeOf m) ≡ true
 by-place a b t m = implied _ _ (law-mode (λ p. implies (a p) (b p)) t m)
 
 says-heard : (m : Mode) → mem (placeOf m) tellers ≡ true → voice m ≡ heard
@@ -137,6 +138,10 @@ says-nothing : (m : Mode) → mem (placeOf m) answerers ≡ false → voice m �
 says-nothing m e =
     pick-by (λ x. x ≡ mute) (mem (placeOf m) tellers) _ _ (λ q. clash _ (mem-sub tellers answerers refl (placeOf m) q) e) λ q.
     pick-by (λ x. x ≡ mute) (eqb (placeOf m) P.acking) _ _ (λ q. clash _ (ap (λ c. mem c answerers) (eqb-true (placeOf m) P.acking q)) e) (λ q. refl)
+
+-- a node that rests says nothing
+resting-mute : (m : Mode) → mem (placeOf m) resting ≡ true → voice m ≡ mute
+resting-mute m e = says-nothing m (not-true _ (by-place (λ p. mem p resting) (λ p. not (mem p answerers)) tt m e))
 
 -- a requester says nothing
 asking-mute : (m : Mode) → asking (placeOf m) ≡ true → voice m ≡ mute
@@ -455,7 +460,7 @@ share c (x ∷ k) l e f = go (eqb c x) refl (share c k l) e
 
 -- places in which only AwaitAck has a request running
 abbrev sent : List ℕ
-sent = P.rest ∷ P.awaitAck ∷ P.headOwn ∷ P.headAll ∷ P.bodyOwn ∷ P.bodyAll ∷ P.tailOwnGood ∷ P.tailOwnBad ∷ P.tailAllGood ∷ P.tailAllBad ∷ P.wait ∷ P.owed ∷ P.told ∷ []
+sent = P.rest ∷ P.asked ∷ P.awaitAck ∷ P.headOwn ∷ P.headAll ∷ P.bodyOwn ∷ P.bodyAll ∷ P.tailOwnGood ∷ P.tailOwnBad ∷ P.tailAllGood ∷ P.tailAllBad ∷ P.wait ∷ P.owed ∷ P.told ∷ []
 
 -- who reports what it read hears the End of a packet, and only its sender has a request running, in AwaitAck
 only-awaits : (b : Bool) (n : ℕ) (f : ℕ → Cell) (w : ℕ) (g : Signal) (j : ℕ) → Delivery b n f w g j → mem (placeOf (f j .mode)) tails ≡ true → OnlyAwaits n f
@@ -495,7 +500,7 @@ wins-confirmed false i x f e = refl
 module _ (s : State) (bk : ℕ → Book) (v : Heed s bk) (p : Packet) (ca : Carry p s) (kp : (k : ℕ) → Kept (s .cell k) (bk k)) (re : Reach s) (i : ℕ) (l : i < s .n) where
   -- while node i is in Answering nobody else has heard a good Ack
   none-acked : s .cell i .mode ≡ Answering → (ph : Phase) → Stage (s .concatenated) ph (s .n) (s .cell) → (k : ℕ) → k < s .n → k ≢ i → placeAt s k ≢ P.ackGood
-  none-acked e Idle a k kl o q = let z : P.answering ≡ P.rest = sym (ap placeOf e) ∙ a .resting i l in omega arith
+  none-acked e Idle a k kl o q = clash _ (a .rests i l) (ap (λ m. mem (placeOf m) resting) e)
   none-acked e Busy (talks a) k kl o q =
       let w : i ≡ a .w = is-talker (s .concatenated) (s .n) (s .cell) a i l (ap (λ m. active (placeOf m)) e) in
       no-turn (s .concatenated) (s .n) (s .cell) a P.answering tt (ap (λ k. stepOf (s .cell k .mode)) (sym w) ∙ ap stepOf e)
@@ -583,6 +588,21 @@ module _ (s : State) (bk : ℕ → Book) (v : Heed s bk) (p : Packet) (ca : Carr
       (rw (e, new) (own-new s bk v i 0 q (λ j jl d. says-nothing (s .cell j .mode) (not-true _ (by-place (λ p. mem p past) (λ p. not (mem p answerers)) tt (s .cell j .mode) (o j jl d)))))) a
       (λ k kl. rw (con k) (v .honest k kl))
 
+  -- the stage of a phase that is known
+  at-stage : {ph : Phase} → s .phase ≡ ph → Stage (s .concatenated) ph (s .n) (s .cell)
+  at-stage z = subst (λ ph. Stage (s .concatenated) ph (s .n) (s .cell)) z (re .stage)
+
+  -- node i wins; it rests, and goes on resting
+  won : (q : Packet) → s .phase ≡ Idle → s .cell i .buffer ≡ Full q → mem (placeAt s i) resting ≡ true → Heed (moved s Busy i (Actions.wins q (s .cell i))) (λ k. reports (eqb k i) (Won i) (bk k))
+  won q z f e =
+      begins _ _ _ q refl (resting-mute (s .cell i .mode) e) (ap (λ b. reports b (Won i) (bk i) .running) (eq-eqb i i refl) ∙ ap (λ f. Demand.wins f (bk i) .running) (kp i .waits ∙ f))
+      (λ k o. ap (λ b. reports b (Won i) (bk k) .running) (ne-eqb k i o)) (λ k kl o. mem-sub resting past refl (placeAt s k) (at-stage z .rests k kl)) tt (λ k. wins-confirmed (eqb k i) i (bk k) _ refl)
+
+  rests-on : (m : Mode) → mem (placeAt s i) resting ≡ true → mem (placeOf m) resting ≡ true → Heed (moved s (s .phase) i (setMode m (s .cell i))) bk
+  rests-on m e f =
+      let q : voice m ≡ voiceAt s i = resting-mute m f ∙ sym (resting-mute (s .cell i .mode) e) in
+      calm s bk v _ i _ bk (λ k kl o h. refl) q (own-none s bk v i m _ (resting-ours m f)) (acks-stay _ q) (v .honest)
+
   -- the node that answers gives a: what it was told stands in the notes already
   given-run : (a : ℕ) (r : Run) → Running (Agrees i heard) r → Running (Agrees i (given a)) (note (gave i a) r)
   given-run a none x = tt
@@ -599,9 +619,6 @@ module _ (s : State) (bk : ℕ → Book) (v : Heed s bk) (p : Packet) (ca : Carr
       pick-by (λ x. voice x ≡ voice m) (isOwed m) _ _ (λ e. sym (ap voice (mode-is m P.owed (eqb-true _ _ e)))) (λ e. refl)
 
   -- a signal under way: an Ack stays its sender's; where node i hears it good, it is what was given, since the notes agree with what the sender says
-  at-stage : {ph : Phase} → s .phase ≡ ph → Stage (s .concatenated) ph (s .n) (s .cell)
-  at-stage z = subst (λ ph. Stage (s .concatenated) ph (s .n) (s .cell)) z (re .stage)
-
   acks-at : {ph : Phase} → s .phase ≡ ph → AckAt ph (λ k. s .cell k .mode)
   acks-at z = subst (λ ph. AckAt ph (λ k. s .cell k .mode)) z (v .carried)
 
@@ -632,10 +649,11 @@ module _ (s : State) (bk : ℕ → Book) (v : Heed s bk) (p : Packet) (ca : Carr
       begins _ _ _ q refl (ap voice e) (ap (λ b. moves b (Request i q) (bk i) .running) (eq-eqb i i refl) ∙ ap (λ h. asks h q (bk i) .running) (kp i .holds ∙ ap holdOf e))
       (λ k o. ap (λ b. moves b (Request i q) (bk k) .running) (ne-eqb k i o)) (holding-past p s ca re i l e (s .phase) (re .stage) .0) (acks-stay _ (sym (ap voice e)))
       (λ k. asks-confirmed (eqb k i) _ i q (bk k) refl)
-  heeds (wins {p = q} z e f w) =
-      begins _ _ _ q refl (ap voice (mode-is (s .cell i .mode) P.rest e)) (ap (λ b. reports b (Won i) (bk i) .running) (eq-eqb i i refl) ∙ ap (λ f. Demand.wins f (bk i) .running) (kp i .waits ∙ f))
-      (λ k o. ap (λ b. reports b (Won i) (bk k) .running) (ne-eqb k i o)) (λ k kl o. ap (λ c. mem c past) (at-stage z .resting k kl)) tt (λ k. wins-confirmed (eqb k i) i (bk k) _ refl)
-  heeds loses = stays (s .phase) (acks-stay (s .cell i) refl)
+  heeds (claims e f) = rests-on Asked (ap (λ p. mem p resting) e) refl
+  heeds (wins {p = q} (at-once e) z f w) = won q z f (ap (λ p. mem p resting) e)
+  heeds (wins {p = q} (asked e) z f w) = won q z f (ap (λ p. mem p resting) e)
+  heeds (loses (at-once e)) = rests-on Rest (ap (λ p. mem p resting) e) refl
+  heeds (loses (asked e)) = rests-on Rest (ap (λ p. mem p resting) e) refl
   heeds (gives {a = a} {h = h} e u) =
       noted s bk v (s .phase) i (answers a h (s .cell i)) _ (gave i a) l (λ k. refl) (λ z. let y : _≡_ {A = ℕ} 0 1 = cc in omega arith)
       (others-mute p s ca i (answers-to (ap (λ m. mem (placeOf m) answerers) e) (ca .all i l))) (none-acked e (s .phase) (re .stage))

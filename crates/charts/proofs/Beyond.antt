@@ -17,19 +17,21 @@ use Rattle.charts.specs.declared.Arrival.the-variants as A
 use Rattle.charts.specs.declared.Marking.{Marking}
 use Rattle.charts.specs.declared.Marking.the-variants as M
 use Rattle.charts.specs.declared.Move.{Move}
-use Rattle.charts.specs.declared.Move.the-variants.{Request, Arbitrate, Respond, Clock, Carry, Grant, GapNext, Reset}
+use Rattle.charts.specs.declared.Move.the-variants.{Request, Arbitrate, Respond, Clock, Carry, Grant, GapNext, Reset, Ask, Decide}
 use Rattle.charts.specs.declared.Action.{Action}
 use Rattle.charts.specs.declared.Decoded.{Decoded}
 use Rattle.charts.specs.declared.Decoded.the-variants.{Refused, Accepted}
+use Rattle.charts.specs.Modes.{isAsked}
+use Rattle.charts.specs.Reception.{hears}
 use Rattle.charts.specs.Numbers as N
 use Rattle.charts.specs.Reception.{hears}
 use Rattle.charts.specs.Outputs.{output}
 use Rattle.charts.specs.Arrivals.{arrives}
-use Rattle.charts.specs.State.{State, isBusy, setMisled, setWon, wons, pendings, holders, upd, some, others, every, lowest, moved, remarked}
-use Rattle.charts.specs.Actions.{Outcome, closed, does, when, request, arbitrate, respond, clockWith, clock, receives, deliverWith, carry, grant, gap, reset, nextOf, outcome}
+use Rattle.charts.specs.State.{State, isBusy, setMisled, setWon, wons, pendings, holders, upd, some, others, every, lowest, moved, remarked, askers}
+use Rattle.charts.specs.Actions.{Outcome, closed, does, when, request, arbitrate, respond, clockWith, clock, receives, deliverWith, carry, grant, gap, reset, nextOf, outcome, ask, decide, waitsForAsked}
 use Rattle.charts.specs.Records.{moveOf, read}
 use Rattle.charts.specs.Valid.{cellFits, valid}
-use Rattle.charts.specs.Step.{Result, Event, refuses, carryOut, about, comesTo, play, look, stepWith, step}
+use Rattle.charts.specs.Step.{Result, Event, refuses, carryOut, about, outcomeOf, comesTo, play, look, stepWith, step}
 use Rattle.charts.proofs.Tools.{and-yes, pick-by, upd-other, some-agree, lowest-below}
 use Rattle.charts.proofs.Steps.{Known, Decodes, taken, decodes, Valid, is-valid, next-lt, Stepped, refused, acts, stepped}
 
@@ -45,7 +47,7 @@ untouched s a k h = go (stepped s a)
   where
     go : {r : Result} {w : Event} → Stepped s a r w → r .state .cell k ≡ s .cell k
     go (refused q) = refl
-    go (acts {i} {r} {p} {c} {x} v q l w) = let d : k ≢ i = (λ z. omega arith) in remarked-beyond x (moved s p i c) k h ∙ upd-other (s .cell) i c k d
+    go (acts {i} {r} {p} {c} {x} v q l f w) = let d : k ≢ i = (λ z. omega arith) in remarked-beyond x (moved s p i c) k h ∙ upd-other (s .cell) i c k d
 
 -- not read: two states that agree in n, in the phase, in the mark of the bus and in the cells below n ..
 pub record Agree (s t : State) : Type 0 where
@@ -127,8 +129,10 @@ module _ (s : State) (g : ℕ → Cell) (h : (k : ℕ) → k < s .n → s .cell 
   same-about Grant = lowest-agree (pendings (s .cell)) (pendings g) (s .n) 0 pend
   same-about GapNext = refl
   same-about Reset = refl
+  same-about (Ask i) = refl
+  same-about (Decide i) = refl
 
-  same-outcome : Valid s → (m : Move) → Known (s .n) m → comesTo s m ≡ comesTo (withCells s g) m
+  same-outcome : Valid s → (m : Move) → Known (s .n) m → outcomeOf s m ≡ outcomeOf (withCells s g) m
   unfolding outcome
   same-outcome v (Request i p) k = ap (λ c. request (s .phase) c p) (h i (k .0))
   same-outcome v (Arbitrate i) k = ap (arbitrate (s .phase) i) (h i k)
@@ -148,6 +152,11 @@ module _ (s : State) (g : ℕ → Cell) (h : (k : ℕ) → k < s .n → s .cell 
   same-outcome v Reset k =
       ap (λ c. reset (s .n) (s .phase) c (wons (s .cell))) (h 0 (omega (arith, v .two)))
       ∙ reset-agree (s .n) (s .phase) (g 0) _ _ (some-agree (wons (s .cell)) (wons g) (s .n) (marks (λ c. c .won)))
+  same-outcome v (Ask i) k = ap (ask (s .phase)) (h i k)
+  same-outcome v (Decide i) k = ap (decide (s .phase) i) (h i k)
+
+  same-comes : Valid s → (m : Move) → Known (s .n) m → comesTo s m ≡ comesTo (withCells s g) m
+  same-comes v m k = ap₂ (λ b o. when (not (waitsForAsked m && b)) o) (some-agree (askers (s .cell)) (askers g) (s .n) (marks (λ c. isAsked (c .mode)))) (same-outcome v m k)
 
 -- states that agree, with one cell changed alike and marks changed
 moved-agree : (s t : State) (p : Phase) (i : ℕ) (c : Cell) → Agree s t → Agree (moved s p i c) (moved t p i c)
@@ -182,7 +191,7 @@ other-cells s g h a =
     go : Valid s → (d : Decoded) → Decodes (s .n) a d → Alike (stepWith s d) (stepWith (withCells s g) d)
     go v (Refused k) q = refuse-alike _ _ k alike
     go v (Accepted m) (taken k) =
-        rw (← same-outcome s g h v (moveOf a) k, ← same-about s g h (moveOf a)) (carry-out-alike s (withCells s g) (about s (moveOf a)) (comesTo s (moveOf a)) alike)
+        rw (← same-comes s g h v (moveOf a) k, ← same-about s g h (moveOf a)) (carry-out-alike s (withCells s g) (about s (moveOf a)) (comesTo s (moveOf a)) alike)
 
 pub unread : (s t : State) (a : Action) → Agree s t → Alike (step s a) (step t a)
 unread s t a e =

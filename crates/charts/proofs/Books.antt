@@ -2,6 +2,7 @@
 -- will hold or holds the bus, and a request of it runs exactly while the node is in Sending, AwaitAck, AckBody or AckEnd, where it is the packet that the node sends.
 -- Each node by itself: nothing is said of the bus or of another node.
 use mathlib.Core.Path.{_≡_, refl, sym, ap, subst, _∙_}
+use mathlib.Core.Logic.{_⊎_, inl, inr}
 use mathlib.Core.Bool.{Bool, true, false, cond, _&&_, _||_, not, Bool·beq}
 use mathlib.Core.List.{List, [], _∷_}
 use Prim.Native.Nat.{ℕ}
@@ -11,7 +12,7 @@ use Rattle.charts.specs.declared.Head.{Head}
 use Rattle.charts.specs.declared.Seen.the-variants as Sn
 use Rattle.charts.specs.declared.Datum.the-variants as D
 use Rattle.charts.specs.declared.Mode.{Mode}
-use Rattle.charts.specs.declared.Mode.the-variants.{Rest, AwaitAck, AckBody, AckEnd, Opened, Addressed, HeadOwn, HeadAll, BodyOwn, BodyAll, TailOwn, TailAll, Wait, Owed, Sending, Told, Answering, Acking, Holding, Spurious, Listening}
+use Rattle.charts.specs.declared.Mode.the-variants.{Rest, AwaitAck, AckBody, AckEnd, Opened, Addressed, HeadOwn, HeadAll, BodyOwn, BodyAll, TailOwn, TailAll, Wait, Owed, Sending, Told, Answering, Acking, Holding, Spurious, Listening, Asked}
 use Rattle.charts.specs.declared.Reading.{Reading}
 use Rattle.charts.specs.declared.Signal.{Signal}
 use Rattle.charts.specs.declared.Report.{Report}
@@ -25,7 +26,7 @@ use Rattle.charts.specs.declared.Heard.{Heard}
 use Rattle.charts.specs.declared.Marking.{Marking}
 use Rattle.charts.specs.declared.Marking.the-variants as M
 use Rattle.charts.specs.declared.Move.{Move}
-use Rattle.charts.specs.declared.Move.the-variants.{Request, Arbitrate, Respond, Clock, Carry, Grant, GapNext, Reset}
+use Rattle.charts.specs.declared.Move.the-variants.{Request, Arbitrate, Respond, Clock, Carry, Grant, GapNext, Reset, Ask, Decide}
 use Rattle.charts.specs.declared.Action.{Action}
 use Rattle.charts.specs.Modes as P
 use Rattle.charts.specs.Modes.{placeOf, nameAt, isHolding, isTold, isOwed}
@@ -39,11 +40,11 @@ use Rattle.charts.specs.Actions.{does, granted}
 use Rattle.charts.specs.Step.{Result, step, after, Event, accepted, eventOf, events}
 use Rattle.charts.specs.Demand as Demand
 use Rattle.charts.specs.Demand.{Note, gave, Run, none, run, Book, newBook, isRun, asks, confirms, note, notes, holdsFor, moverOf, nodeOf, moves, reports, enters, bookOf}
-use Rattle.charts.proofs.Tools.{never, clash, implies, implied, and-true, neither, beq-eq, pick, pick-by, mem}
+use Rattle.charts.proofs.Tools.{never, clash, implies, implied, and-true, neither, beq-eq, pick, pick-by, mem, mem-two}
 use Rattle.charts.specs.Words as W
 use Rattle.charts.specs.Words.{wordOf}
-use Rattle.charts.proofs.Places.{hold-in, mode-is, law}
-use Rattle.charts.proofs.Ways.{Puts, start, dhead, dest, header, datum, end-all, end-one, filler, ack-start, ack-body, ack-hold, ack-end, holds-on, Effect, waits, replies, wins, loses, gives, puts, frees, arrives, is-lost, grants, grants-none, gaps, settles, resets}
+use Rattle.charts.proofs.Places.{hold-in, mode-is, law, law-mode, resting}
+use Rattle.charts.proofs.Ways.{Puts, start, dhead, dest, header, datum, end-all, end-one, filler, ack-start, ack-body, ack-hold, ack-end, holds-on, Effect, waits, replies, wins, loses, gives, puts, frees, arrives, is-lost, grants, grants-none, gaps, settles, resets, Contends, at-once, asked, contends-rests, claims}
 use Rattle.charts.proofs.Steps.{Stepped, refused, acts, stepped}
 
 -- a node in such a mode has a started request without confirmation
@@ -115,6 +116,7 @@ by j label m g = go m
     go Holding = silent
     go Spurious = silent
     go Listening = arm (eqb c S.start) _ _ silent (arm (eqb c S.prefix) _ _ silent (arm (eqb c S.gap) _ _ silent silent))
+    go Asked = silent
 
 -- a report is nothing, or of node i
 pub data Of (i : ℕ) (r : Report) : Type 0 where
@@ -183,6 +185,21 @@ stay : {m₀ m : Mode} {f : Buffer} {p : Packet} {b : Book} → holdOf m ≡ hol
     (eqb (placeOf m) P.awaitAck ≡ true → eqb (p .to) everybody ≡ false) → Keeps m₀ f p b → Keeps m f p b
 stay {m₀} {m} {f} {p} {b} h o n v =
     record { right = v .right; waits = v .waits; holds = v .holds ∙ sym h; runs = subst (λ o. Runs o p (b .running)) (sym o) (v .runs); near = n }
+
+-- a node that rests starts no request at once and has none running; so it may go from Rest to Asked and back
+resting-hold : (m : Mode) → mem (placeOf m) resting ≡ true → holdOf m ≡ false
+resting-hold m e = go (mem-two P.rest P.asked (placeOf m) e)
+  where
+    go : (placeOf m ≡ P.rest) ⊎ (placeOf m ≡ P.asked) → holdOf m ≡ false
+    go (inl q) = ap holdOf (mode-is m P.rest q)
+    go (inr q) = ap holdOf (mode-is m P.asked q)
+
+pub resting-ours : (m : Mode) → mem (placeOf m) resting ≡ true → ours (placeOf m) ≡ false
+resting-ours m e = not-true _ (implied _ _ (law-mode (λ p. implies (mem p resting) (not (ours p))) tt m) e)
+
+rests-on : {m₀ m : Mode} {f : Buffer} {p : Packet} {b : Book} → mem (placeOf m₀) resting ≡ true → mem (placeOf m) resting ≡ true → Keeps m₀ f p b → Keeps m f p b
+rests-on {m₀} {m} e u v =
+    stay (resting-hold m u ∙ sym (resting-hold m₀ e)) (resting-ours m u ∙ sym (resting-ours m₀ e)) (λ z. clash _ (ap ours (eqb-true (placeOf m) P.awaitAck z)) (resting-ours m u)) v
 
 -- it reports a confirmation, and its request runs no longer
 ends : {m₀ m : Mode} {f : Buffer} {p : Packet} {b : Book} (r : Report) → holdOf m ≡ holdOf m₀ → ours (placeOf m₀) ≡ true → ours (placeOf m) ≡ false →
@@ -253,6 +270,8 @@ aside-move (Carry w) v = v
 aside-move Grant v = v
 aside-move GapNext v = v
 aside-move Reset v = v
+aside-move (Ask i) v = v
+aside-move (Decide i) v = v
 
 aside-report : {m : Mode} {f : Buffer} {p : Packet} {b : Book} (r : Report) → Keeps m f p b → Keeps m f p (reports false r b)
 aside-report Silent v = v
@@ -266,6 +285,11 @@ aside-report (Good i h d) v = noted _ v
 aside-report (Dcrc i h) v = noted _ v
 aside-report (Broad i h d) v = noted _ v
 
+-- a move by which a node contends is in no book
+contends-moves : {s : State} {i : ℕ} {m : Move} → Contends s i m → (mine : Bool) (b : Book) → moves mine m b ≡ b
+contends-moves (at-once e) mine b = refl
+contends-moves (asked e) mine b = refl
+
 -- the move and the report of an action about node i count as node i's in a book
 pub record Names (i : ℕ) (m : Move) (r : Report) : Type 0 where
   pub mover : (k : ℕ) (b : Book) → moves (eqb k (moverOf m)) m b ≡ moves (eqb k i) m b
@@ -275,8 +299,9 @@ module _ (s : State) where
   pub event-names : {m : Move} {i : ℕ} {r : Report} {p : Phase} {c : Cell} {x : Marking} → Effect s m i (does r p c x) → Names i m r
   event-names (waits e f) = record { mover = λ k b. refl; reporter = nothing refl }
   event-names (replies e) = record { mover = λ k b. refl; reporter = nothing refl }
-  event-names (wins q e f w) = record { mover = λ k b. refl; reporter = names refl }
-  event-names loses = record { mover = λ k b. refl; reporter = names refl }
+  event-names (claims e f) = record { mover = λ k b. refl; reporter = nothing refl }
+  event-names (wins c q f w) = record { mover = λ k b. contends-moves c _ b ∙ sym (contends-moves c _ b); reporter = names refl }
+  event-names (loses c) = record { mover = λ k b. contends-moves c _ b ∙ sym (contends-moves c _ b); reporter = names refl }
   event-names (gives e u) = record { mover = λ k b. refl; reporter = nothing refl }
   event-names (puts q h o x) = record { mover = λ k b. refl; reporter = put x .reporter }
   event-names (frees q h e) = record { mover = λ k b. refl; reporter = nothing refl }
@@ -297,11 +322,13 @@ module _ (s : State) where
   own b (replies {i = i} {p = p} e) v =
       subst (λ h. Keeps (Sending 0) (s .cell i .buffer) p (asks h p b)) (sym (v .holds ∙ ap holdOf e))
       (record { right = neither _ _ (v .right) (ap isRun (none-runs _ _ (b .running) (v .runs) (ap (λ m. ours (placeOf m)) e))); waits = v .waits; holds = refl; runs = (refl, refl); near = λ z. never z })
-  own b (wins {i = i} {p = p} q e f w) v =
-      let n : holdOf (s .cell i .mode) ≡ false = ap holdOf (mode-is (s .cell i .mode) P.rest e) in
-      subst (λ u. Keeps (Sending 0) Empty p (Demand.wins u b)) (sym (v .waits ∙ f))
-      (record { right = neither _ _ (v .right) (ap isRun (none-runs _ _ (b .running) (v .runs) (ap ours e))); waits = refl; holds = v .holds ∙ n; runs = (refl, refl); near = λ z. never z })
-  own b loses v = v
+  own b (claims {i = i} e f) v = rests-on {m₀ = s .cell i .mode} (ap (λ p. mem p resting) e) refl v
+  own b (wins {i = i} {p = p} c q f w) v =
+      let e = contends-rests c in
+      subst (λ x. Keeps (Sending 0) Empty p (reports true (Won i) x)) (sym (contends-moves c true b))
+      (subst (λ u. Keeps (Sending 0) Empty p (Demand.wins u b)) (sym (v .waits ∙ f))
+      (record { right = neither _ _ (v .right) (ap isRun (none-runs _ _ (b .running) (v .runs) (resting-ours (s .cell i .mode) e))); waits = refl; holds = v .holds ∙ resting-hold (s .cell i .mode) e; runs = (refl, refl); near = λ z. never z }))
+  own b (loses {i = i} c) v = subst (Keeps Rest (s .cell i .buffer) (s .cell i .sending)) (sym (contends-moves c true b)) (rests-on {m₀ = s .cell i .mode} (contends-rests c) refl v)
   own b (gives {i = i} {a = a} {h = h} e u) v =
       noted (gave i a) {b = holdsFor true h b}
       (record { right = v .right; waits = v .waits; holds = refl; runs = subst (λ m. Runs (ours (placeOf m)) (s .cell i .sending) (b .running)) e (v .runs); near = λ z. never z })
@@ -339,7 +366,7 @@ books-kept k s a b v = go (step s a) (eventOf a (step s a)) (stepped s a)
   where
     go : (r : Result) (e : Event) → Stepped s a r e → Kept (r .state .cell k) (enters k e b)
     go r e (refused q) = v
-    go r e (acts {i = i} {p = p} {c = c} {x = x} w n l y) = remarked-kept x (moved s p i c) k _ (effect-kept s k b y v)
+    go r e (acts {i = i} {p = p} {c = c} {x = x} w n l f y) = remarked-kept x (moved s p i c) k _ (effect-kept s k b y v)
 
 -- and so does each list of actions
 pub run-kept : (k : ℕ) (s : State) (l : List Action) (b : Book) → Kept (s .cell k) b → Kept (after s l .cell k) (bookOf k (events s l) b)

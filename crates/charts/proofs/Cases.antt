@@ -71,6 +71,12 @@ gap = act 9 0 0 0 0 0 0 0
 abbrev reset : Action
 reset = act 10 0 0 0 0 0 0 0
 
+abbrev ask : ℕ → Action
+ask i = act 11 i 0 0 0 0 0 0
+
+abbrev decide : ℕ → Action
+decide i = act 12 i 0 0 0 0 0 0
+
 abbrev times : ℕ → List Action → List Action
 times zero l = []
 times (suc k) l = l ++ times k l
@@ -153,6 +159,19 @@ replyAll =
 abbrev waiting : List Action
 waiting = request 1 0 9 1 2 ∷ reply
 
+-- contention: both nodes ask before the bus decides, the first to be decided wins, and nothing goes on until the other has lost; it keeps its request and wins the next time
+abbrev contention : List Action
+contention =
+    request 0 63 0 1 2 ∷ request 1 63 0 3 4 ∷ ask 0 ∷ ask 1 ∷ decide 0 ∷ clock 0 ∷ decide 1 ∷ times 6 (clock 0 ∷ pass ∷ []) ++ (gap ∷ gap ∷ ask 1 ∷ decide 1 ∷ decide 1 ∷ ask 0 ∷ [])
+
+-- the longest way to Idle: the others have asked when node 0 wins and are decided; node 2 is misled, so that two nodes are granted; then a reply, and its acknowledgement
+abbrev longest : List Action
+longest =
+    request 0 1 7 5 6 ∷ request 1 0 9 1 2 ∷ request 2 0 9 3 4 ∷ ask 1 ∷ ask 2 ∷ arbitrate 0 ∷ decide 1 ∷ decide 2 ∷ times 2 (clock 0 ∷ pass ∷ pass ∷ [])
+    ++ (clock 0 ∷ pass ∷ change 2 ∷ times 3 (clock 0 ∷ pass ∷ pass ∷ []))
+    ++ (grant ∷ grant ∷ clock 2 ∷ respond 1 1 1 ∷ times 3 (clock 1 ∷ pass ∷ pass ∷ []))
+    ++ (request 1 0 8 7 8 ∷ times 6 (clock 1 ∷ pass ∷ pass ∷ [])) ++ (grant ∷ respond 0 2 0 ∷ times 3 (clock 0 ∷ pass ∷ pass ∷ [])) ++ (gap ∷ gap ∷ gap ∷ [])
+
 -- a row: the nodes and the actions, and what document 01 says that they show
 pub record Row : Type 0 where
   pub nodes : ℕ
@@ -203,32 +222,34 @@ table =
     ∷ row 2 (set a 9 lose) (at 1 (Won 0) ∷ at 11 (Drop 1 Rd.HeadAll) ∷ at 12 (Sent 0 0) ∷ []) [] 16 Idle
     ∷ row 2 (set a 11 lose) (at 1 (Won 0) ∷ at 12 (Sent 0 0) ∷ at 13 (Drop 1 Rd.BodyAll) ∷ []) [] 16 Idle
     ∷ row 2 (set a 11 (change 0)) (at 1 (Won 0) ∷ at 12 (Sent 0 0) ∷ at 13 (Drop 1 Rd.TailAll) ∷ []) [] 16 Idle
+    -- contention: clock 0 is refused 7 while node 1 is Asked; at the end node 1 is no longer Asked, and node 0's buffer is empty
+    ∷ row 2 contention (at 4 (Won 0) ∷ at 6 (Lost 1) ∷ at 17 (Sent 0 0) ∷ at 18 (Broad 1 (head 1 0) 2) ∷ at 22 (Won 1) ∷ []) (at 5 7 ∷ at 23 7 ∷ at 24 7 ∷ []) 22 Busy
     ∷ []
 
 pub cases : map (λ (r : Row). shows (r .nodes) (r .actions)) table ≡ map (λ (r : Row). r .shown) table
-unfolding step look play outcome Actions.request Actions.arbitrate Actions.respond Actions.clock Actions.carry Actions.grant Actions.gap Actions.reset output arrives hears clean moveOf read valid phaseFits cellFits modeFits
+unfolding step look play outcome Actions.request Actions.arbitrate Actions.respond Actions.clock Actions.carry Actions.grant Actions.gap Actions.reset Actions.ask Actions.decide output arrives hears clean moveOf read valid phaseFits cellFits modeFits
 cases = refl
 
 -- the theorem speaks of these runs: the `ack 1 7` of B with the label 7, at 21, stands behind the start of a request with that label, a told report and a respond
 pub b-witnessed : Witnessed 0 (Acked 0 1 7) (take 21 (history 2 (b 7)))
-unfolding step look play outcome Actions.request Actions.arbitrate Actions.respond Actions.clock Actions.carry Actions.grant Actions.gap Actions.reset output arrives hears clean moveOf read valid phaseFits cellFits modeFits
+unfolding step look play outcome Actions.request Actions.arbitrate Actions.respond Actions.clock Actions.carry Actions.grant Actions.gap Actions.reset Actions.ask Actions.decide output arrives hears clean moveOf read valid phaseFits cellFits modeFits
 b-witnessed = every-confirmation-of 2 (lit≤ tt) (lit≤ tt) (b 7) (take 21 (history 2 (b 7))) (drop 22 (history 2 (b 7))) (Carry Pass) (Acked 0 1 7) 0 refl refl
 
 -- an acknowledged reply: the `ack 2 8` at 42 stands behind a request that started at once
 pub reply-witnessed : Witnessed 1 (Acked 1 2 8) (take 42 (history 2 reply))
-unfolding step look play outcome Actions.request Actions.arbitrate Actions.respond Actions.clock Actions.carry Actions.grant Actions.gap Actions.reset output arrives hears clean moveOf read valid phaseFits cellFits modeFits
+unfolding step look play outcome Actions.request Actions.arbitrate Actions.respond Actions.clock Actions.carry Actions.grant Actions.gap Actions.reset Actions.ask Actions.decide output arrives hears clean moveOf read valid phaseFits cellFits modeFits
 reply-witnessed = every-confirmation-of 2 (lit≤ tt) (lit≤ tt) reply (take 42 (history 2 reply)) (drop 43 (history 2 reply)) (Carry Pass) (Acked 1 2 8) 1 refl refl
 
 -- the mark of the bus: set by the Prefix at 20, cleared by the last Gap
 pub reply-marks : map (λ k. after (fresh 2) (take k reply) .concatenated) (20 ∷ 21 ∷ 44 ∷ 45 ∷ []) ≡ false ∷ true ∷ true ∷ false ∷ []
-unfolding step look play outcome Actions.request Actions.arbitrate Actions.respond Actions.clock Actions.carry Actions.grant Actions.gap Actions.reset output arrives hears clean moveOf read valid phaseFits cellFits modeFits
+unfolding step look play outcome Actions.request Actions.arbitrate Actions.respond Actions.clock Actions.carry Actions.grant Actions.gap Actions.reset Actions.ask Actions.decide output arrives hears clean moveOf read valid phaseFits cellFits modeFits
 reply-marks = refl
 
--- and no shorter bound than 21n + 1 is true: from its `won` on, the reply takes 43 forward actions, and the bus is not Idle before the last of them
-pub reply-longest : (allForward (after (fresh 2) (take 2 reply)) (drop 2 reply) ≡ true) × (Demand.acceptedOf (after (fresh 2) (take 2 reply)) (drop 2 reply) ≡ 43)
-    × (meetsIdle (after (fresh 2) (take 2 reply)) (take 42 (drop 2 reply)) ≡ false)
-unfolding step look play outcome Actions.request Actions.arbitrate Actions.respond Actions.clock Actions.carry Actions.grant Actions.gap Actions.reset output arrives hears clean moveOf read valid phaseFits cellFits modeFits
-reply-longest = (refl, refl, refl)
+-- and no shorter bound than 22n is true, so that 21n + 2 is not from n = 3 on: from its `won` on, this run takes 66 forward actions, and the bus is not Idle before the last of them
+pub longest-way : (allForward (after (fresh 3) (take 6 longest)) (drop 6 longest) ≡ true) × (Demand.acceptedOf (after (fresh 3) (take 6 longest)) (drop 6 longest) ≡ 66)
+    × (meetsIdle (after (fresh 3) (take 6 longest)) (take 65 (drop 6 longest)) ≡ false)
+unfolding step look play outcome Actions.request Actions.arbitrate Actions.respond Actions.clock Actions.carry Actions.grant Actions.gap Actions.reset Actions.ask Actions.decide output arrives hears clean moveOf read valid phaseFits cellFits modeFits
+longest-way = (refl, refl, refl)
 
 -- a fresh bus handed out
 abbrev hands : ℕ → Result
@@ -251,7 +272,7 @@ refused s x k = record { handed = s; action = x; number = k }
 abbrev pub refusals : List Refusal
 refusals =
     refused (fresh 2) (act 0 0 0 0 0 0 0 0) 2  -- kind 0
-    ∷ refused (fresh 2) (act 11 0 0 0 0 0 0 0) 2
+    ∷ refused (fresh 2) (act 13 0 0 0 0 0 0 0) 2
     ∷ refused (fresh 2) (act 10 1 0 0 0 0 0 0) 3  -- reset with node 1
     ∷ refused (fresh 2) (clock 2) 4  -- n = 2, clock 2
     ∷ refused (fresh 2) (request 0 2 0 0 0) 5  -- n = 2, request to 2
@@ -261,6 +282,11 @@ refusals =
     ∷ refused (fresh 2) (respond 0 0 2) 6
     ∷ refused (after (fresh 2) (take 13 (b 0))) lose 7  -- lose on End
     ∷ refused (fresh 2) reset 7
+    ∷ refused (after (fresh 2) (take 4 contention)) (request 0 63 0 0 0) 7  -- a request, kind 2 and kind 10 with a node Asked
+    ∷ refused (after (fresh 2) (take 4 contention)) (arbitrate 0) 7
+    ∷ refused (after (fresh 2) (take 21 contention ++ (ask 1 ∷ []))) reset 7
+    ∷ refused (fresh 2) (ask 0) 7
+    ∷ refused (fresh 2) (decide 2) 4
     ∷ refused (fresh 0) reset 12  -- state with n = 0
     ∷ refused (fresh 64) reset 12
     -- "A step looks at 12, then 2 to 7" (13 "after 5"): each of these has two faults
@@ -273,7 +299,7 @@ refusals =
     ∷ []
 
 pub refusals-hold : map (λ (r : Refusal). step (r .handed) (r .action) .number) refusals ≡ map (λ (r : Refusal). r .number) refusals
-unfolding step look play outcome Actions.request Actions.arbitrate Actions.respond Actions.clock Actions.carry Actions.grant Actions.gap Actions.reset output arrives hears clean moveOf read valid phaseFits cellFits modeFits
+unfolding step look play outcome Actions.request Actions.arbitrate Actions.respond Actions.clock Actions.carry Actions.grant Actions.gap Actions.reset Actions.ask Actions.decide output arrives hears clean moveOf read valid phaseFits cellFits modeFits
 refusals-hold = refl
 
 -- a bus of two nodes with the label x at each place that can hold one: in a full buffer, in the packet being sent, in a header that a mode remembers, in the Header under way
@@ -290,7 +316,7 @@ holding x =
 
 -- "A state handed in that holds a label over 63 is refused by 12": 64 is, at each place; with 63 the step goes on, to 7
 pub labels-looked-at : (map (λ s. step s reset .number) (holding 64) ≡ replicate 10 12) × (map (λ s. step s reset .number) (holding 63) ≡ replicate 10 7)
-unfolding step look play outcome Actions.request Actions.arbitrate Actions.respond Actions.clock Actions.carry Actions.grant Actions.gap Actions.reset output arrives hears clean moveOf read valid phaseFits cellFits modeFits
+unfolding step look play outcome Actions.request Actions.arbitrate Actions.respond Actions.clock Actions.carry Actions.grant Actions.gap Actions.reset Actions.ask Actions.decide output arrives hears clean moveOf read valid phaseFits cellFits modeFits
 labels-looked-at = (refl, refl)
 
 -- "A refused step returns the number, the state handed in and no report": at every state and record
@@ -299,4 +325,4 @@ refused-keeps s x = go (stepped s x)
   where
     go : {r : Result} {e : Event} → Stepped s x r e → isAccepted r ≡ false → r ≡ refuses s (r .number)
     go (S.refused k) q = refl
-    go (S.acts v k l w) q = absurd (true≢false q)
+    go (S.acts v k l f w) q = absurd (true≢false q)

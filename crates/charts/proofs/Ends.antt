@@ -1,4 +1,4 @@
--- From every state that a run reaches, 21n + 2 forward actions one after the other meet Idle.
+-- From every state that a run reaches, 22n + 2 forward actions one after the other meet Idle: 21n + 1 of the transaction and its reply, and one for each node that is Asked.
 use mathlib.Core.Path.{_≡_, refl}
 use mathlib.Core.Bool.{Bool, true, false, _||_, not, true≢false}
 use mathlib.Core.List.{List, [], _∷_}
@@ -18,16 +18,13 @@ use Rattle.charts.specs.Demand.{one, forward, isOpen, acceptedOf, allFor
 use Rattle.charts.proofs.Tools.{and-true, or-false, pick, table-at, mem}
 use Rattle.charts.proofs.Steps.{Stepped, refused, acts, stepped}
 use Rattle.charts.proofs.Stages.{rowAt, turnAt, talks, clears, Stage, weights, bonus, clearRank, rank}
-use Rattle.charts.proofs.Reach.{Reach}
-use Rattle.charts.proofs.Sums.{total-le, weigh-le, left-pos, left-lt}
+use Rattle.charts.proofs.Reach.{Reach, toGo}
+use Rattle.charts.proofs.Sums.{total-le, weigh-le, left-pos, left-lt, undecided-le}
 use Rattle.charts.proofs.Progress.{effect-reach}
 use Rattle.charts.specs.Modes as P
 use Rattle.charts.proofs.Places.{stepOf}
 
-abbrev pub toGo : (s : State) → Reach s → ℕ
-toGo s r = rank (s .concatenated) (s .phase) (s .n) (s .cell) (r .stage)
-
--- what is left is at most 21n + 1, and something is left outside Idle
+-- what is left for the stage is at most 21n + 1, and something is left outside Idle
 small : (x y n : ℕ) → x + y ≤ 21 → 1 ≤ n → x * n + y ≤ 21 * n
 small x y n h l = omega (arith, mul-le-mul-right n h, mul-le-mul-left y l, mul-one y)
 
@@ -68,7 +65,7 @@ step-reach s a r = go (step s a) (eventOf a (step s a)) (stepped s a)
   where
     go : (x : Result) (e : Event) → Stepped s a x e → Reach (x .state)
     go x e (refused q) = r
-    go x e (acts {i = i} {r = q} {p = p} {c = c} {x = y} v k l z) = effect-reach s r (moveOf a) i q p c y l z .0
+    go x e (acts {i = i} {r = q} {p = p} {c = c} {x = y} v k l m z) = effect-reach s r (moveOf a) i q p c y l m z .0
 
 pub run-reach : (s : State) (l : List Action) → Reach s → Reach (after s l)
 run-reach s [] r = r
@@ -76,20 +73,21 @@ run-reach s (a ∷ l) r = run-reach (step s a .state) l (step-reach s a r)
 
 -- a continuation of forward actions that does not meet Idle is shorter than what was left
 shorter : (s : State) (r : Reach s) (l : List Action) → allForward s l ≡ true → meetsIdle s l ≡ false → acceptedOf s l < toGo s r
-shorter s r [] f m = rank-pos (s .concatenated) (s .phase) (s .n) (s .cell) (r .two) (r .stage) m
+shorter s r [] f m = omega (arith, rank-pos (s .concatenated) (s .phase) (s .n) (s .cell) (r .two) (r .stage) m)
 shorter s r (a ∷ l) f m =
     let z = and-true (not (isOpen s a) || forward s (moveOf a)) _ f in
-    go (step s a) (eventOf a (step s a)) (stepped s a) (λ t u. shorter t u l) (z .0) (z .1) (or-false (isIdle (s .phase)) _ m .1)
+    let o = or-false (isIdle (s .phase)) _ m in
+    go (step s a) (eventOf a (step s a)) (stepped s a) (λ t u. shorter t u l) (z .0) (z .1) (o .0) (o .1)
   where
     go : (x : Result) (e : Event) → Stepped s a x e → ((t : State) (u : Reach t) → allForward t l ≡ true → meetsIdle t l ≡ false → acceptedOf t l < toGo t u) →
-        not (isAccepted x) || forward s (moveOf a) ≡ true → allForward (x .state) l ≡ true → meetsIdle (x .state) l ≡ false → one (isAccepted x) + acceptedOf (x .state) l < toGo s r
-    go x e (refused q) h y f m = rw q (omega (arith, h s r f m))
-    go x e (acts {i = i} {r = q} {p = p} {c = c} {x = z} v k b w) h y f m = let u = effect-reach s r (moveOf a) i q p c z b w in omega (arith, h _ (u .0) f m, u .1 y)
+        not (isAccepted x) || forward s (moveOf a) ≡ true → allForward (x .state) l ≡ true → isIdle (s .phase) ≡ false → meetsIdle (x .state) l ≡ false → one (isAccepted x) + acceptedOf (x .state) l < toGo s r
+    go x e (refused q) h y f o m = rw q (omega (arith, h s r f m))
+    go x e (acts {i = i} {r = q} {p = p} {c = c} {x = z} v k b j w) h y f o m = let u = effect-reach s r (moveOf a) i q p c z b j w in omega (arith, h _ (u .0) f m, u .1 y o)
 
--- any continuation whose accepted actions are all forward, 21n + 2 in number, meets Idle
+-- any continuation whose accepted actions are all forward, 22n + 2 in number, meets Idle
 pub meets : (s : State) (r : Reach s) (c : List Action) → allForward s c ≡ true → acceptedOf s c ≡ bound (s .n) → meetsIdle s c ≡ true
 meets s r c f g = go (meetsIdle s c) refl
   where
     go : (b : Bool) → meetsIdle s c ≡ b → b ≡ true
     go true e = refl
-    go false e = absurd (omega (arith, shorter s r c f e, rank-le (s .concatenated) (s .phase) (s .n) (s .cell) (r .two) (r .stage)))
+    go false e = absurd (omega (arith, shorter s r c f e, rank-le (s .concatenated) (s .phase) (s .n) (s .cell) (r .two) (r .stage), undecided-le (s .cell) (s .n)))

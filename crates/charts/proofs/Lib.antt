@@ -14,6 +14,7 @@ pub mod Drops
 pub mod Tally
 pub mod Stretches
 pub mod Validity
+pub mod Asking
 pub mod Beyond
 pub mod Views
 pub mod Cases

@@ -1,4 +1,4 @@
--- Outside Idle some forward action is open: pass, grant or gap; on a Busy bus the clock of a holder, or its respond or request where the clock would be a filler.
+-- Outside Idle some forward action is open: the decision of a node that is Asked; where none is, pass, grant or gap; on a Busy bus the clock of a holder, or its respond or request where the clock would be a filler.
 use mathlib.Core.Path.{_≡_, refl, sym, ap, subst, _∙_}
 use mathlib.Core.Logic.{_≢_}
 use mathlib.Core.Bool.{Bool, true, false, cond, _&&_, _||_, not, true≢false}
@@ -17,28 +17,30 @@ use Rattle.charts.specs.declared.Report.{Report}
 use Rattle.charts.specs.declared.Cell.{Cell}
 use Rattle.charts.specs.declared.Marking.{Marking}
 use Rattle.charts.specs.declared.Packet.{Packet}
+use Rattle.charts.specs.declared.Buffer.{Buffer}
+use Rattle.charts.specs.declared.Buffer.the-variants.{Empty, Full}
 use Rattle.charts.specs.declared.Way.the-variants.{Pass}
 use Rattle.charts.specs.declared.Move.{Move}
-use Rattle.charts.specs.declared.Move.the-variants.{Request, Respond, Clock, Carry, Grant, GapNext}
+use Rattle.charts.specs.declared.Move.the-variants.{Request, Respond, Clock, Carry, Grant, GapNext, Decide}
 use Rattle.charts.specs.declared.Action.{Action}
 use Rattle.charts.specs.declared.Decoded.the-variants.{Refused, Accepted}
 use Rattle.charts.specs.Numbers as N
 use Rattle.charts.specs.Modes as P
-use Rattle.charts.specs.Modes.{placeOf, isRest, isAnswering, isHolding}
+use Rattle.charts.specs.Modes.{placeOf, isRest, isAnswering, isHolding, isAsked}
 use Rattle.charts.specs.Reception.{hears}
 use Rattle.charts.specs.Places.{stepIn, ackIn, holdIn}
 use Rattle.charts.specs.Outputs as Outputs
 use Rattle.charts.specs.Outputs.{output}
 use Rattle.charts.specs.Arrivals as Arrivals
-use Rattle.charts.specs.State.{State, pendings, holders, some, others, lowest, isIdle, isBusy, isGranting, isEmpty}
+use Rattle.charts.specs.State.{State, pendings, holders, askers, some, others, lowest, isIdle, isBusy, isGranting, isEmpty}
 use Rattle.charts.specs.Actions as Actions
 use Rattle.charts.specs.Actions.{Outcome, does, when, mayAnswer}
 use Rattle.charts.specs.Signals.{noHead}
 use Rattle.charts.specs.Records.{clean, moveOf, read}
 use Rattle.charts.specs.Valid.{valid}
-use Rattle.charts.specs.Step.{carryOut, about, comesTo, play, look, stepWith, step, isAccepted}
+use Rattle.charts.specs.Step.{someAsked, carryOut, about, comesTo, play, look, stepWith, step, isAccepted}
 use Rattle.charts.specs.Demand.{forward, isForward}
-use Rattle.charts.proofs.Tools.{never, clash, implies, implied, both, and-no, pick, none-of, lowest-of, lowest-lt, others-none, table-at, mem, mem-one, neither, or-yes}
+use Rattle.charts.proofs.Tools.{never, clash, implies, implied, both, and-no, pick, none-of, lowest-of, lowest-lt, others-none, table-at, mem, mem-one, neither, or-yes, by-test}
 use Rattle.charts.proofs.Places.{law-mode, active, stepOf, mode-is}
 use Rattle.charts.proofs.Stages.{turnAt, clearSteps, acting, BusyAt, talks, clears, Stage}
 use Rattle.charts.proofs.Reach.{Reach, answerers, is-talker}
@@ -89,6 +91,10 @@ module _ (s : State) (v : valid s ≡ true) where
   unfolding read clean moveOf
   read-clock i l = ap (λ b. cond (not b) (Refused N.wrong-node) (Accepted (Clock i))) (lt-ltb i (s .n) l)
 
+  pub read-decide : (i : ℕ) → i < s .n → read (s .n) (bare 12 i 0) ≡ Accepted (Decide i)
+  unfolding read clean moveOf
+  read-decide i l = ap (λ b. cond (not b) (Refused N.wrong-node) (Accepted (Decide i))) (lt-ltb i (s .n) l)
+
   read-respond : (i : ℕ) → i < s .n → read (s .n) (bare 3 i 0) ≡ Accepted (Respond i 0 false)
   unfolding read clean moveOf
   read-respond i l = ap (λ b. cond (not b) (Refused N.wrong-node) (Accepted (Respond i 0 false))) (lt-ltb i (s .n) l)
@@ -98,6 +104,19 @@ module _ (s : State) (v : valid s ≡ true) where
   read-request i l =
       ap (λ b. cond (not b) (Refused N.wrong-node) (cond (not (ltb 63 (s .n) || true)) (Refused N.wrong-address) (Accepted (Request i (nothing-to 63))))) (lt-ltb i (s .n) l)
       ∙ ap (λ b. cond (not b) (Refused N.wrong-address) (Accepted (Request i (nothing-to 63)))) (or-yes (ltb 63 (s .n)))
+
+  -- a node that is Asked with a full buffer is decided
+  decide-opens : (i : ℕ) → i < s .n → isAsked (s .cell i .mode) ≡ true → isEmpty (s .cell i .buffer) ≡ false → Found
+  unfolding moveOf Actions.outcome Actions.decide
+  decide-opens i l e f = is-open (bare 12 i 0) (Decide i) refl (read-decide i l) (open-when (isAsked (s .cell i .mode)) _ e (go (s .cell i .buffer) f)) refl
+    where
+      go : (b : Buffer) → isEmpty b ≡ false → Opens (Actions.decided (s .phase) i (s .cell i) b)
+      go Empty f = absurd (true≢false f)
+      go (Full p) f = pick Opens (isIdle (s .phase) && not (s .cell i .won)) _ _ opens opens
+
+  -- a move that waits for nodes that are Asked, where none is
+  open-now : someAsked s ≡ false → (o : Outcome) → Opens o → Opens (when (not (someAsked s)) o)
+  open-now u o x = open-when _ o (ap not u) x
 
   -- a node below n that holds the bus; unless it is spurious, it alone
   module _ (i : ℕ) (l : i < s .n) (h : s .cell i .holder ≡ true) (sole : eqb (placeOf (s .cell i .mode)) P.spurious ≡ false → others (holders (s .cell)) i (s .n) ≡ false) where
@@ -132,14 +151,14 @@ module _ (s : State) (v : valid s ≡ true) where
         go false false p q t = is Spurious (mode-is m P.spurious (mem-one P.spurious (placeOf m) t)) (open-when (s .cell i .holder) _ h opens)
 
     -- its forward action: a request in Holding, a respond in Answering, else its clock
-    holder-opens : s .phase ≡ Busy → active (placeOf (s .cell i .mode)) ≡ true → Found
+    holder-opens : someAsked s ≡ false → s .phase ≡ Busy → active (placeOf (s .cell i .mode)) ≡ true → Found
     unfolding moveOf Actions.outcome Actions.request Actions.respond Actions.clock
-    holder-opens b e = go (isHolding (s .cell i .mode)) (isAnswering (s .cell i .mode)) refl refl
+    holder-opens u b e = go (isHolding (s .cell i .mode)) (isAnswering (s .cell i .mode)) refl refl
       where
         go : (x y : Bool) → isHolding (s .cell i .mode) ≡ x → isAnswering (s .cell i .mode) ≡ y → Found
         go true y p q = is-open (bare 1 i 63) (Request i (nothing-to 63)) refl (read-request i l) (pick Opens (isRest (s .cell i .mode) && isEmpty (s .cell i .buffer)) _ _ opens (open-when (isHolding (s .cell i .mode)) _ p opens)) p
         go false true p q = is-open (bare 3 i 0) (Respond i 0 false) refl (read-respond i l) (open-when (isAnswering (s .cell i .mode) && mayAnswer (s .concatenated) false) _ (both _ _ q (ap not (and-no (s .concatenated)))) opens) refl
-        go false false p q = is-open (bare 4 i 0) (Clock i) refl (read-clock i l) (open-when (isBusy (s .phase)) _ (ap isBusy b) (clock-opens t)) (ap not (neither _ _ q p))
+        go false false p q = is-open (bare 4 i 0) (Clock i) refl (read-clock i l) (open-now u _ (open-when (isBusy (s .phase)) _ (ap isBusy b) (clock-opens t))) (ap not (neither _ _ q p))
           where
             t : mem (placeOf (s .cell i .mode)) (P.sending ∷ P.acking ∷ P.spurious ∷ []) ≡ true
             t = implied _ _ (implied _ _ (implied (active (placeOf (s .cell i .mode))) _ (law-mode (λ p. implies (active p) (implies (not (eqb p P.holding)) (implies (not (eqb p P.answering)) (mem p (P.sending ∷ P.acking ∷ P.spurious ∷ []))))) tt (s .cell i .mode)) e) (ap not p)) (ap not q)
@@ -156,22 +175,22 @@ module _ (s : State) (v : valid s ≡ true) where
         go k l q true e = absurd (q (u k l e))
         go k l q false e = refl
 
-    busy-opens : s .phase ≡ Busy → BusyAt (s .concatenated) (s .n) (s .cell) → Found
-    busy-opens b (talks a) = holder-opens (a .w) (a .here) (r .marks (a .w) .1 ∙ e) (λ z. sole-holder (a .w) (is-talker (s .concatenated) (s .n) (s .cell) a)) b e
+    busy-opens : someAsked s ≡ false → s .phase ≡ Busy → BusyAt (s .concatenated) (s .n) (s .cell) → Found
+    busy-opens u b (talks a) = holder-opens (a .w) (a .here) (r .marks (a .w) .1 ∙ e) (λ z. sole-holder (a .w) (is-talker (s .concatenated) (s .n) (s .cell) a)) u b e
       where
         e : active (placeOf (s .cell (a .w) .mode)) ≡ true
         e = acting-step (s .cell (a .w) .mode) (ap (λ c. leb 30 c || active c) (a .talker) ∙ table-at (λ t. leb 30 (turnAt t .step) || active (turnAt t .step)) 17 tt (a .t) (a .t-lt))
-    busy-opens b (clears a) = go (some stray (s .n)) refl
+    busy-opens u b (clears a) = go (some stray (s .n)) refl
       where
         go : (x : Bool) → some stray (s .n) ≡ x → Found
-        go true q = holder-opens i (lowest-lt stray (s .n) 0 q) (r .marks i .1 ∙ e) (λ z. clash _ (lowest-of stray (s .n) 0 q) z) b e
+        go true q = holder-opens i (lowest-lt stray (s .n) 0 q) (r .marks i .1 ∙ e) (λ z. clash _ (lowest-of stray (s .n) 0 q) z) u b e
           where
             i : ℕ
             i = lowest stray (s .n) 0
 
             e : active (placeOf (s .cell i .mode)) ≡ true
             e = ap active (eqb-true (placeOf (s .cell i .mode)) P.spurious (lowest-of stray (s .n) 0 q))
-        go false q = holder-opens i l (r .marks i .1 ∙ e) (λ z. sole-holder i (λ k m u. one k i m l (answers k m u) (answers i l e))) b e
+        go false q = holder-opens i l (r .marks i .1 ∙ e) (λ z. sole-holder i (λ k m u. one k i m l (answers k m u) (answers i l e))) u b e
           where
             i : ℕ
             i = lowest (acting (s .cell)) (s .n) 0
@@ -188,11 +207,13 @@ module _ (s : State) (v : valid s ≡ true) where
     -- outside Idle a forward action is open
     pub some-open : isIdle (s .phase) ≡ false → Found
     unfolding read clean moveOf Actions.outcome Actions.carry Arrivals.arrives Actions.grant Actions.gap
-    some-open e = go (s .phase) refl (r .stage) e
+    some-open e = by-test (someAsked s)
+        (λ u. let i = lowest (askers (s .cell)) (s .n) 0 in decide-opens i (lowest-lt (askers (s .cell)) (s .n) 0 u) (lowest-of (askers (s .cell)) (s .n) 0 u) (r .ready i (lowest-of (askers (s .cell)) (s .n) 0 u)))
+        (λ u. go u (s .phase) refl (r .stage) e)
       where
-        go : (p : Phase) → s .phase ≡ p → Stage (s .concatenated) p (s .n) (s .cell) → isIdle p ≡ false → Found
-        go Idle q a e = absurd (true≢false e)
-        go Busy q a e = busy-opens q a
-        go (Delivering w g j) q a e = is-open (bare 5 0 0) (Carry Pass) refl refl (subst (λ p. Opens (Actions.carry hears (s .n) p (s .cell (Actions.nextOf p)) (pendings (s .cell)) Pass)) (sym q) opens) refl
-        go Granting q a e = is-open (bare 8 0 0) Grant refl refl (open-when (isGranting (s .phase)) _ (ap isGranting q) (pick Opens (some (pendings (s .cell)) (s .n)) _ _ opens opens)) refl
-        go (Gapping j) q a e = is-open (bare 9 0 0) GapNext refl refl (subst (λ p. Opens (Actions.gap hears (s .n) p (s .cell (Actions.nextOf p)))) (sym q) (pick Opens (ltb (suc j) (s .n)) _ _ opens opens)) refl
+        go : someAsked s ≡ false → (p : Phase) → s .phase ≡ p → Stage (s .concatenated) p (s .n) (s .cell) → isIdle p ≡ false → Found
+        go u Idle q a e = absurd (true≢false e)
+        go u Busy q a e = busy-opens u q a
+        go u (Delivering w g j) q a e = is-open (bare 5 0 0) (Carry Pass) refl refl (open-now u _ (subst (λ p. Opens (Actions.carry hears (s .n) p (s .cell (Actions.nextOf p)) (pendings (s .cell)) Pass)) (sym q) opens)) refl
+        go u Granting q a e = is-open (bare 8 0 0) Grant refl refl (open-now u _ (open-when (isGranting (s .phase)) _ (ap isGranting q) (pick Opens (some (pendings (s .cell)) (s .n)) _ _ opens opens))) refl
+        go u (Gapping j) q a e = is-open (bare 9 0 0) GapNext refl refl (open-now u _ (subst (λ p. Opens (Actions.gap hears (s .n) p (s .cell (Actions.nextOf p)))) (sym q) (pick Opens (ltb (suc j) (s .n)) _ _ opens opens))) refl

@@ -38,9 +38,9 @@ use Rattle.charts.specs.Actions.{does, firstOther, nextOther, onward, re
 use Rattle.charts.proofs.Tools.{never, clash, implies, implied, and-true, or-false, or-no, or-yes, pick, pick-by, at-upd, at-upd≢, mem, everyIn, mem-sub, by-test}
 use Rattle.charts.specs.Words as W
 use Rattle.charts.specs.Words.{wordOf}
-use Rattle.charts.proofs.Places.{mode-is, law, law-mode, active, stepOf, sendingAt, ackingAt}
+use Rattle.charts.proofs.Places.{mode-is, law, law-mode, active, stepOf, sendingAt, ackingAt, resting}
 use Rattle.charts.proofs.Stages.{Row, rowAt, turnAt, quiet, grantSteps, clearSteps, Delivery, Talk, BusyAt, talks, clears, Stage}
-use Rattle.charts.proofs.Ways.{Puts, start, dhead, dest, header, datum, end-all, end-one, filler, ack-start, ack-body, ack-hold, ack-end, holds-on, Arrives, passes, redirects, bad-header, bad-data, bad-ack, Effect, waits, replies, wins, loses, gives, puts, frees, arrives, is-lost, grants, grants-none, gaps, settles, resets}
+use Rattle.charts.proofs.Ways.{Puts, start, dhead, dest, header, datum, end-all, end-one, filler, ack-start, ack-body, ack-hold, ack-end, holds-on, Arrives, passes, redirects, bad-header, bad-data, bad-ack, Effect, waits, replies, wins, loses, gives, puts, frees, arrives, is-lost, grants, grants-none, gaps, settles, resets, claims}
 use Rattle.charts.proofs.Reach.{Reach, answerers, is-talker, is-sender, row-fact, turn-fact, no-turn, not-clearing, sole-quiet}
 
 -- the nodes other than i are in places of `room`
@@ -49,7 +49,7 @@ OthersIn room n f i = (k : ℕ) → k < n → k ≢ i → mem (placeOf (f k .mod
 
 -- a node in such a mode remembers nothing of a packet
 abbrev pub blank : List ℕ
-blank = P.rest ∷ P.awaitAck ∷ P.ackBody ∷ P.ackGood ∷ P.ackNone ∷ P.opened ∷ P.addressed ∷ P.wait ∷ P.owed ∷ P.sending ∷ P.holding ∷ P.spurious ∷ P.listening ∷ []
+blank = P.rest ∷ P.asked ∷ P.awaitAck ∷ P.ackBody ∷ P.ackGood ∷ P.ackNone ∷ P.opened ∷ P.addressed ∷ P.wait ∷ P.owed ∷ P.sending ∷ P.holding ∷ P.spurious ∷ P.listening ∷ []
 
 -- good data are the packet's; of bad data nothing is kept
 abbrev pub Read : Packet → Datum → Type 0
@@ -231,7 +231,7 @@ one-responder p s v j k l h e f = sym (answers-to e (v .all j l)) ∙ answers-to
 -- EACH WAY IN WHICH AN ACTION ACTS
 -- places of the other nodes where a packet may start: they remember nothing and have no packet of their own under way
 abbrev pub past : List ℕ
-past = P.rest ∷ P.ackBody ∷ P.ackGood ∷ P.ackNone ∷ P.opened ∷ P.addressed ∷ P.wait ∷ P.listening ∷ []
+past = P.rest ∷ P.asked ∷ P.ackBody ∷ P.ackGood ∷ P.ackNone ∷ P.opened ∷ P.addressed ∷ P.wait ∷ P.listening ∷ []
 
 -- after an action with report r: the packet that was started last, and r tells of the one that was so before
 pub record Carries (p : Packet) (r : Report) (s : State) : Type 0 where
@@ -311,7 +311,7 @@ module _ (b : Bool) (n : ℕ) (f : ℕ → Cell) (i : ℕ) (l : i < n) (acts : a
 module _ (p : Packet) (s : State) (v : Carry p s) (re : Reach s) (i : ℕ) (l : i < s .n) where
   -- where node i holds the bus no other remembers a packet, and only a Prefix can be under way
   pub holding-past : s .cell i .mode ≡ Holding → (ph : Phase) → Stage (s .concatenated) ph (s .n) (s .cell) → OthersIn past (s .n) (s .cell) i × ((q : Packet) → SaysAt q ph)
-  holding-past e Idle a = absurd (let z : P.holding ≡ P.rest = sym (ap placeOf e) ∙ a .resting i l in omega arith)
+  holding-past e Idle a = clash _ (a .rests i l) (ap (λ m. mem (placeOf m) resting) e)
   holding-past e Busy (talks a) = (turn-in (s .concatenated) (s .n) (s .cell) i l (ap (λ m. active (placeOf m)) e) P.holding (ap stepOf e) past a tt, λ q. tt)
   holding-past e Busy (clears a) = absurd (not-clearing (s .n) (s .cell) (a .steps) i l (ap (λ m. mem (stepOf m) clearSteps) e))
   holding-past e (Delivering w g j) a =
@@ -397,8 +397,10 @@ module _ (p : Packet) (s : State) (v : Carry p s) (re : Reach s) (i : ℕ) (l : 
   pub carries : {m : Move} {r : Report} {ph : Phase} {c : Cell} {x : Marking} → Effect s m i (does r ph c x) → Carries p r (remarked x (moved s ph i c))
   carries (waits e f) = untold p (changes p s v _ i _ (v .signal) (v .all i l) (v .own i l)) refl
   carries (replies {p = q} e) = let y = holding-past e (s .phase) (re .stage) in untold q (begins p s v _ i _ (y .1 q) refl (y .0)) refl
-  carries (wins {p = q} z e f w) = untold q (begins p s v _ i _ tt refl (λ k h o. ap (λ c. mem c past) (subst (λ ph. Stage (s .concatenated) ph (s .n) (s .cell)) z (re .stage) .resting k h))) refl
-  carries loses = untold p (stays _ (v .signal)) refl
+  carries (claims e f) = untold p (changes p s v _ i _ (v .signal) (nothing refl) (λ z. never z)) refl
+  carries (wins {p = q} c z f w) =
+      untold q (begins p s v _ i _ tt refl (λ k h o. mem-sub resting past refl (placeOf (s .cell k .mode)) (subst (λ ph. Stage (s .concatenated) ph (s .n) (s .cell)) z (re .stage) .rests k h))) refl
+  carries (loses c) = untold p (changes p s v _ i _ (v .signal) (nothing refl) (λ z. never z)) refl
   carries (gives e u) = untold p (changes p s v _ i _ (v .signal) (answers refl (answers-to (ap (λ m. mem (placeOf m) answerers) e) (v .all i l))) (λ z. never z)) refl
   carries (puts z h o x) = puts-out (subst (λ ph. Stage (s .concatenated) ph (s .n) (s .cell)) z (re .stage)) o refl x
   carries (frees z h e) = untold p (changes p s v _ i _ (pick (SaysAt p) (others (holders (s .cell)) i (s .n)) _ _ tt tt) (nothing refl) (λ z. never z)) refl

@@ -1,8 +1,8 @@
 -- Modes by their places, and the reception chart by places and classes: `key` says once that what a node comes to goes by the place of its mode and the class of the signal,
--- so that a rule of the chart is one test, computed over 24 × 14 pairs (`law`).
+-- so that a rule of the chart is one test, computed over 25 × 14 pairs (`law`).
 use mathlib.Core.Path.{_≡_, refl, sym, ap, subst, _∙_}
 use mathlib.Core.Bool.{Bool, true, false, cond, _&&_, _||_, not, Bool·beq}
-use mathlib.Core.List.{[], _∷_}
+use mathlib.Core.List.{List, [], _∷_}
 use Prim.Native.Nat.{ℕ, _<_, _+_, _*_}
 use lib.Dec.{T, eqb, lit<}
 use lib.ListN.{getD}
@@ -10,13 +10,13 @@ use borrow.Author.Tests.{eqb-true, not-true}
 use Rattle.charts.specs.declared.Seen.the-variants as Sn
 use Rattle.charts.specs.declared.Datum.the-variants as D
 use Rattle.charts.specs.declared.Mode.{Mode}
-use Rattle.charts.specs.declared.Mode.the-variants.{Rest, AwaitAck, AckBody, AckEnd, Opened, Addressed, HeadOwn, HeadAll, BodyOwn, BodyAll, TailOwn, TailAll, Wait, Owed, Sending, Told, Answering, Acking, Holding, Spurious, Listening}
+use Rattle.charts.specs.declared.Mode.the-variants.{Rest, AwaitAck, AckBody, AckEnd, Opened, Addressed, HeadOwn, HeadAll, BodyOwn, BodyAll, TailOwn, TailAll, Wait, Owed, Sending, Told, Answering, Acking, Holding, Spurious, Listening, Asked}
 use Rattle.charts.specs.declared.Signal.{Signal}
 use Rattle.charts.specs.declared.Signal.the-variants.{Start, End, Prefix, Gap, Dhead, Dest, Header, Data, Ack}
 use Rattle.charts.specs.declared.Heard.{Heard}
 use Rattle.charts.specs.declared.Entry.{Entry}
 use Rattle.charts.specs.Modes as P
-use Rattle.charts.specs.Modes.{placeOf}
+use Rattle.charts.specs.Modes.{placeOf, isAsked}
 use Rattle.charts.specs.Signals as S
 use Rattle.charts.specs.Signals.{classOf, isLine, closes}
 use Rattle.charts.specs.State.{every}
@@ -53,8 +53,9 @@ mode-at (Acking k a b) = refl
 mode-at Holding = refl
 mode-at Spurious = refl
 mode-at Listening = refl
+mode-at Asked = refl
 
-pub place-lt : (m : Mode) → placeOf m < 24
+pub place-lt : (m : Mode) → placeOf m < 25
 place-lt Rest = lit< tt
 place-lt AwaitAck = lit< tt
 place-lt AckBody = lit< tt
@@ -79,6 +80,7 @@ place-lt (Acking k a b) = lit< tt
 place-lt Holding = lit< tt
 place-lt Spurious = lit< tt
 place-lt Listening = lit< tt
+place-lt Asked = lit< tt
 
 -- a mode at a place is the one that stands there, with what it remembers
 pub mode-is : (m : Mode) (p : ℕ) → placeOf m ≡ p → m ≡ getD (modes (stepIn m) (ackIn m) (holdIn m) (headIn m) (datumIn m)) p Spurious
@@ -97,9 +99,9 @@ stepAt p k = cond (eqb p P.sending) (sendingAt k) (cond (eqb p P.acking) (acking
 abbrev pub stepOf : Mode → ℕ
 stepOf m = stepAt (placeOf m) (stepIn m)
 
--- a test that passes at the 24 places holds of every mode
-pub law-mode : (f : ℕ → Bool) → T (every f 24) → (m : Mode) → f (placeOf m) ≡ true
-law-mode f t m = table-at f 24 t (placeOf m) (place-lt m)
+-- a test that passes at the 25 places holds of every mode
+pub law-mode : (f : ℕ → Bool) → T (every f 25) → (m : Mode) → f (placeOf m) ≡ true
+law-mode f t m = table-at f 25 t (placeOf m) (place-lt m)
 
 -- only Acking remembers a hold
 pub hold-in : (m : Mode) → holdIn m ≡ eqb (placeOf m) P.acking && holdIn m
@@ -109,8 +111,8 @@ hold-in m = ap holdIn (mode-at m) ∙ go (holdIn m)
     at b p = getD (modes (stepIn m) (ackIn m) b (headIn m) (datumIn m)) p Spurious
 
     go : (b : Bool) → holdIn (at b (placeOf m)) ≡ eqb (placeOf m) P.acking && b
-    go true = beq-eq _ _ (table-at (λ p. Bool·beq (holdIn (at true p)) (eqb p P.acking && true)) 24 tt (placeOf m) (place-lt m))
-    go false = beq-eq _ _ (table-at (λ p. Bool·beq (holdIn (at false p)) (eqb p P.acking && false)) 24 tt (placeOf m) (place-lt m))
+    go true = beq-eq _ _ (table-at (λ p. Bool·beq (holdIn (at true p)) (eqb p P.acking && true)) 25 tt (placeOf m) (place-lt m))
+    go false = beq-eq _ _ (table-at (λ p. Bool·beq (holdIn (at false p)) (eqb p P.acking && false)) 25 tt (placeOf m) (place-lt m))
 
 pub no-hold : (m : Mode) → eqb (placeOf m) P.acking ≡ false → holdIn m ≡ false
 no-hold m e = hold-in m ∙ ap (λ b. b && holdIn m) e
@@ -145,6 +147,7 @@ key me label (Acking k a b) c s = refl
 key me label Holding c s = refl
 key me label Spurious c s = refl
 key me label Listening c s = refl
+key me label Asked c s = refl
 
 pub class-lt : (me : ℕ) (s : Signal) → classOf me s < 14
 class-lt me Start = lit< tt
@@ -158,11 +161,11 @@ class-lt me (Data d good) = pick (λ c. c < 14) good _ _ (lit< tt) (lit< tt)
 class-lt me (Ack a good) = pick (λ c. c < 14) good _ _ (lit< tt) (lit< tt)
 
 -- a test of what a node comes to, of the place of its mode and of the signal's class, that passes at all pairs, holds of every node and signal
-pub law : (f : Entry → ℕ → ℕ → Bool) → T (everyPair (λ p c. f (entry p c) p c) 24 14) → (me label : ℕ) (m : Mode) (s : Signal) → f (entryOf (hears me label m s)) (placeOf m) (classOf me s) ≡ true
+pub law : (f : Entry → ℕ → ℕ → Bool) → T (everyPair (λ p c. f (entry p c) p c) 25 14) → (me label : ℕ) (m : Mode) (s : Signal) → f (entryOf (hears me label m s)) (placeOf m) (classOf me s) ≡ true
 unfolding hears
 law f t me label m s =
     subst (λ y. f y (placeOf m) (classOf me s) ≡ true) (sym (key me label m (classOf me s) s))
-    (pairs-at (λ p c. f (entry p c) p c) 24 14 t (placeOf m) (classOf me s) (place-lt m) (class-lt me s))
+    (pairs-at (λ p c. f (entry p c) p c) 25 14 t (placeOf m) (classOf me s) (place-lt m) (class-lt me s))
 
 -- a node reports a drop where request 4 says, and nowhere else
 pub drops : (me label : ℕ) (m : Mode) (s : Signal) → isDrop (hears me label m s .report) ≡ dropping (placeOf m) (placeOf (hears me label m s .mode)) (classOf me s)
@@ -177,6 +180,10 @@ active p = mem p (P.sending ∷ P.answering ∷ P.acking ∷ P.holding ∷ P.spu
 
 abbrev pub half : ℕ → Bool
 half p = mem p (P.headOwn ∷ P.bodyOwn ∷ P.tailOwnGood ∷ P.tailOwnBad ∷ [])
+
+-- a node in such a mode rests: Asked may stand wherever Rest may, since nothing is delivered while a node is Asked
+abbrev pub resting : List ℕ
+resting = P.rest ∷ P.asked ∷ []
 
 -- a node owes what it owed before, or what it pends for now; nobody becomes or stops being a holder by hearing
 pub owes : (me label : ℕ) (m : Mode) (s : Signal) → owing (placeOf (hears me label m s .mode)) ≡ owing (placeOf m) || hears me label m s .pends
@@ -197,10 +204,14 @@ hears-no-hold me label m s =
 pub ended : (me label : ℕ) (m : Mode) → half (placeOf (hears me label m End .mode)) ≡ false
 ended me label m = not-true _ (law (λ y p c. implies (eqb c S.end) (not (half (y .place)))) tt me label m End)
 
--- a Gap makes nobody owe, and frees nobody who does; a node that neither owes nor holds is at rest after it
+-- nobody becomes Asked by hearing
+pub hears-unasked : (me label : ℕ) (m : Mode) (s : Signal) → isAsked m ≡ false → isAsked (hears me label m s .mode) ≡ false
+hears-unasked me label m s e = not-true _ (rw e at (law (λ y p c. implies (not (eqb p P.asked)) (not (eqb (y .place) P.asked))) tt me label m s))
+
+-- a Gap makes nobody owe, and frees nobody who does; a node that neither owes nor holds rests after it
 pub gap-owes : (me label : ℕ) (m : Mode) → owing (placeOf (hears me label m Gap .mode)) ≡ owing (placeOf m)
 gap-owes me label m = beq-eq _ _ (law (λ y p c. implies (eqb c S.gap) (Bool·beq (owing (y .place)) (owing p))) tt me label m Gap)
 
-pub gap-rests : (me label : ℕ) (m : Mode) → owing (placeOf m) ≡ false → active (placeOf m) ≡ false → placeOf (hears me label m Gap .mode) ≡ P.rest
+pub gap-rests : (me label : ℕ) (m : Mode) → owing (placeOf m) ≡ false → active (placeOf m) ≡ false → mem (placeOf (hears me label m Gap .mode)) resting ≡ true
 gap-rests me label m o a =
-    eqb-true _ _ (rw (o, a) at (law (λ y p c. implies (eqb c S.gap) (implies (not (owing p)) (implies (not (active p)) (eqb (y .place) P.rest)))) tt me label m Gap))
+    rw (o, a) at (law (λ y p c. implies (eqb c S.gap) (implies (not (owing p)) (implies (not (active p)) (mem (y .place) resting)))) tt me label m Gap)

@@ -1,7 +1,7 @@
 -- Every accepted action keeps marks and stage, and a forward one leaves less to do; and while the bus is marked nobody comes to hold it again. One clause for each way.
 use mathlib.Core.Path.{_≡_, refl, sym, ap, subst, _∙_}
 use mathlib.Core.Logic.{_≢_, _⊎_, inl, inr}
-use mathlib.Core.Bool.{Bool, true, false, cond, _&&_, _||_, not, true≢false}
+use mathlib.Core.Bool.{Bool, true, false, cond, _&&_, _||_, not, Bool·beq, true≢false}
 use mathlib.Core.List.{List, [], _∷_}
 use native.Mathlib.Nat.{mul-le-mul-right}
 use Prim.Native.Nat.{ℕ, suc, _<_, _≤_, _+_, _-_, _*_}
@@ -22,40 +22,75 @@ use Rattle.charts.specs.declared.Marking.the-variants as M
 use Rattle.charts.specs.declared.Way.{Way}
 use Rattle.charts.specs.declared.Move.{Move}
 use Rattle.charts.specs.Modes as P
-use Rattle.charts.specs.Modes.{placeOf, isAnswering, isHolding, isTold, isOwed}
+use Rattle.charts.specs.Modes.{placeOf, isAnswering, isHolding, isTold, isOwed, isAsked}
 use Rattle.charts.specs.Signals as S
 use Rattle.charts.specs.Signals.{kindOf, isEnd}
 use Rattle.charts.specs.Places.{stepIn, holdIn}
 use Rattle.charts.specs.Reception.{hears}
-use Rattle.charts.specs.State.{State, pendings, holders, upd, some, others, lowest, every, moved, concatenatedAfter, remarked}
+use Rattle.charts.specs.State.{State, pendings, holders, upd, some, others, lowest, every, moved, concatenatedAfter, remarked, askers, isIdle, isEmpty}
 use Rattle.charts.specs.Actions.{receives, does, firstOther, nextOther, putsOut, freed, afterFree, onward, granted, afterGrant, mayAnswer, markingBy}
-use Rattle.charts.specs.Demand.{forward}
-use Rattle.charts.proofs.Tools.{never, clash, implies, implied, not-implied, and-true, neither, or-true, pick-by, at-upd, at-upd≢, upd-same, upd-other, upd-map, none-of, some-at, some-agree, others-off, lowest-of, lowest-lt, table-at, mem, everyIn, mem-sub, not-mem-sub, mem-two, pick, by-test}
-use Rattle.charts.proofs.Places.{law, law-mode, owing, active, owes, acts, gap-owes, stepOf, no-hold, hears-no-hold, place-lt, sendingAt, ackingAt}
-use Rattle.charts.proofs.Ways.{afterGap, passed-by, Puts, start, dhead, dest, header, datum, end-all, end-one, filler, ack-start, ack-body, ack-hold, ack-end, holds-on, Arrives, passes, redirects, bad-header, bad-data, bad-ack, Effect, waits, replies, wins, loses, gives, puts, frees, arrives, is-lost, grants, grants-none, gaps, settles, resets}
+use Rattle.charts.specs.Demand.{forward, one}
+use Rattle.charts.proofs.Tools.{never, clash, implies, implied, not-implied, and-true, neither, or-true, pick-by, at-upd, at-upd≢, upd-same, upd-other, upd-map, none-of, some-at, some-agree, others-off, lowest-of, lowest-lt, table-at, mem, everyIn, mem-sub, not-mem-sub, mem-two, pick, by-test, both, beq-eq}
+use Rattle.charts.proofs.Places.{law, law-mode, owing, active, owes, acts, gap-owes, stepOf, no-hold, hears-no-hold, place-lt, sendingAt, ackingAt, resting, hears-unasked}
+use Rattle.charts.proofs.Ways.{afterGap, passed-by, Puts, start, dhead, dest, header, datum, end-all, end-one, filler, ack-start, ack-body, ack-hold, ack-end, holds-on, Arrives, passes, redirects, bad-header, bad-data, bad-ack, Effect, waits, replies, wins, loses, gives, puts, frees, arrives, is-lost, grants, grants-none, gaps, settles, resets, at-once, asked, contends-rests, claims}
 use Rattle.charts.proofs.Steps.{remarked-n}
-use Rattle.charts.proofs.Stages.{rowAt, roundOf, fillerOf, Turn, turnAt, packetRead, quiet, waiting, ended, answering, requesting, reading, grantSteps, clearSteps, acting, Sole, Delivery, Talk, Clear, BusyAt, talks, clears, GrantingAt, GappingAt, IdleAt, Stage, weigh, weights, total, left, bonus, rowRank, turnRank, clearRank, busyRank, rank, Lands, heard-lands, lost-lands}
-use Rattle.charts.proofs.Reach.{Marks, Reach, low-places, low-place, step-place, passive-steps, is-talker, turn-fact, no-turn, sole-quiet}
-use Rattle.charts.proofs.Sums.{total-gap, total-agree, total-one, total-sole, weigh-le, weights-upd, next-apart, next-past, next-past-j, left-pos, left-lt, left-next, first-lt, first-apart, first-none}
+use Rattle.charts.proofs.Stages.{rowAt, roundOf, fillerOf, Turn, turnAt, packetRead, quiet, waiting, ended, answering, requesting, reading, grantSteps, clearSteps, acting, Sole, Delivery, Talk, Clear, BusyAt, talks, clears, GrantingAt, GappingAt, IdleAt, Stage, weigh, weights, total, left, bonus, rowRank, turnRank, clearRank, busyRank, rank, Lands, heard-lands, lost-lands, Row, undecided}
+use Rattle.charts.proofs.Reach.{Marks, Reach, low-places, low-place, step-place, passive-steps, is-talker, turn-fact, no-turn, sole-quiet, Ready, toGo, is-passive}
+use Rattle.charts.proofs.Sums.{total-gap, total-agree, total-one, total-sole, weigh-le, weights-upd, next-apart, next-past, next-past-j, left-pos, left-lt, left-next, first-lt, first-apart, first-none, undecided-upd}
+use Rattle.charts.specs.Step.{someAsked, mayAct}
 
 -- an action leads to a stage; a forward one to a stage with less left than r
 pub record Goes (fwd : Bool) (r : ℕ) (b : Bool) (p : Phase) (n : ℕ) (f : ℕ → Cell) : Type 0 where
   pub stage : Stage b p n f
   pub lower : fwd ≡ true → rank b p n f stage < r
 
--- a stage goes by modes and pending marks alone
-module _ (b : Bool) (n : ℕ) (f g : ℕ → Cell) (mode-same : (k : ℕ) → g k .mode ≡ f k .mode) (pend-same : (k : ℕ) → g k .pending ≡ f k .pending) where
-  in-place : {v : Bool} (k : ℕ) (l : List ℕ) → mem (placeOf (f k .mode)) l ≡ v → mem (placeOf (g k .mode)) l ≡ v
-  in-place k l h = ap (λ m. mem (placeOf m) l) (mode-same k) ∙ h
+-- two modes that no stage tells apart: the same mode, or Rest and Asked
+data Same (m : Mode) : Mode → Type 0 where
+  same : Same m m
+  rests : {m′ : Mode} → mem (placeOf m) resting ≡ true → mem (placeOf m′) resting ≡ true → Same m m′
 
-  in-step : (k : ℕ) (l : List ℕ) → mem (stepOf (f k .mode)) l ≡ true → mem (stepOf (g k .mode)) l ≡ true
-  in-step k l h = ap (λ m. mem (stepOf m) l) (mode-same k) ∙ h
+-- what Rest and Asked have in common, all modes have that are the same
+rest-at : {A : Type 0} (h : ℕ → A) → h P.asked ≡ h P.rest → (m : Mode) → mem (placeOf m) resting ≡ true → h (placeOf m) ≡ h P.rest
+rest-at {A} h t m e = go (mem-two P.rest P.asked (placeOf m) e)
+  where
+    go : (placeOf m ≡ P.rest) ⊎ (placeOf m ≡ P.asked) → h (placeOf m) ≡ h P.rest
+    go (inl q) = ap h q
+    go (inr q) = ap h q ∙ t
+
+same-place : {A : Type 0} (h : ℕ → A) → h P.asked ≡ h P.rest → {m m′ : Mode} → Same m m′ → h (placeOf m′) ≡ h (placeOf m)
+same-place h t same = refl
+same-place h t {m} {m′} (rests e f) = rest-at h t m′ f ∙ sym (rest-at h t m e)
+
+same-step : {A : Type 0} (h : ℕ → A) → h P.asked ≡ h P.rest → {m m′ : Mode} → Same m m′ → h (stepOf m′) ≡ h (stepOf m)
+same-step h t same = refl
+same-step h t {m} {m′} (rests e f) = at m′ f ∙ sym (at m e)
+  where
+    at : (m : Mode) → mem (placeOf m) resting ≡ true → h (stepOf m) ≡ h P.rest
+    at m e = ap h (step-place m (is-passive resting refl m e)) ∙ rest-at h t m e
+
+-- the lists of the tables have both or neither
+abbrev fair : List ℕ → Bool
+fair l = Bool·beq (mem P.asked l) (mem P.rest l)
+
+fair-row : (h : Row → List ℕ) → T (every (λ d. fair (h (rowAt d))) 22) → (d : ℕ) → d < 22 → mem P.asked (h (rowAt d)) ≡ mem P.rest (h (rowAt d))
+fair-row h t d l = beq-eq _ _ (table-at (λ d. fair (h (rowAt d))) 22 t d l)
+
+fair-turn : (a r : Turn → Bool) → T (every (λ t. Bool·beq (a (turnAt t)) (r (turnAt t))) 17) → (t : ℕ) → t < 17 → a (turnAt t) ≡ r (turnAt t)
+fair-turn a r c t l = beq-eq _ _ (table-at (λ t. Bool·beq (a (turnAt t)) (r (turnAt t))) 17 c t l)
+
+-- so a stage goes by these and by pending marks alone
+module _ (b : Bool) (n : ℕ) (f g : ℕ → Cell) (mode-same : (k : ℕ) → Same (f k .mode) (g k .mode)) (pend-same : (k : ℕ) → g k .pending ≡ f k .pending) where
+  in-place : {v : Bool} (k : ℕ) (l : List ℕ) → mem P.asked l ≡ mem P.rest l → mem (placeOf (f k .mode)) l ≡ v → mem (placeOf (g k .mode)) l ≡ v
+  in-place k l t h = same-place (λ c. mem c l) t (mode-same k) ∙ h
+
+  in-step : (k : ℕ) (l : List ℕ) → mem P.asked l ≡ mem P.rest l → mem (stepOf (f k .mode)) l ≡ true → mem (stepOf (g k .mode)) l ≡ true
+  in-step k l t h = same-step (λ c. mem c l) t (mode-same k) ∙ h
 
   same-weight : total (weights g) n ≡ total (weights f) n
-  same-weight = total-agree (weights g) (weights f) n (λ k l. ap (λ m. weigh (placeOf m)) (mode-same k))
+  same-weight = total-agree (weights g) (weights f) n (λ k l. same-place weigh refl (mode-same k))
 
   same-stage : (p : Phase) (a : Stage b p n f) → (c : Stage b p n g) × (rank b p n g c ≡ rank b p n f a)
-  same-stage Idle a = (record { unmarked = a .unmarked; resting = λ k l. ap placeOf (mode-same k) ∙ a .resting k l }, refl)
+  same-stage Idle a = (record { unmarked = a .unmarked; rests = λ k l. in-place k resting refl (a .rests k l) }, refl)
   same-stage Busy (talks a) = (
     talks (record {
       t = a .t;
@@ -63,19 +98,19 @@ module _ (b : Bool) (n : ℕ) (f g : ℕ → Cell) (mode-same : (k : ℕ) → g 
       round = a .round;
       w = a .w;
       here = a .here;
-      talker = ap stepOf (mode-same (a .w)) ∙ a .talker;
-      room = λ k l z. in-place k (turnAt (a .t) .room) (a .room k l z);
+      talker = eqb-true _ _ (same-step (λ c. eqb c (turnAt (a .t) .step)) (fair-turn (λ t. eqb P.asked (t .step)) (λ t. eqb P.rest (t .step)) tt (a .t) (a .t-lt)) (mode-same (a .w)) ∙ eq-eqb _ _ (a .talker));
+      room = λ k l z. in-place k (turnAt (a .t) .room) (fair-turn (λ t. mem P.asked (t .room)) (λ t. mem P.rest (t .room)) tt (a .t) (a .t-lt)) (a .room k l z);
       who = a .who;
-      sole = λ k l z y. in-place k (turnAt (a .t) .sole) (a .sole k l z y);
+      sole = λ k l z y. in-place k (turnAt (a .t) .sole) (fair-turn (λ t. mem P.asked (t .sole)) (λ t. mem P.rest (t .sole)) tt (a .t) (a .t-lt)) (a .sole k l z y);
     }),
     refl,
   )
   same-stage Busy (clears a) = (
     clears (record {
-      steps = λ k l. in-step k clearSteps (a .steps k l);
-      acts = some-agree (acting g) (acting f) n (λ k l. ap (λ m. active (placeOf m)) (mode-same k)) ∙ a .acts;
+      steps = λ k l. in-step k clearSteps refl (a .steps k l);
+      acts = some-agree (acting g) (acting f) n (λ k l. same-place active refl (mode-same k)) ∙ a .acts;
       who = a .who;
-      sole = λ k l z. in-place k requesting (a .sole k l z);
+      sole = λ k l z. in-place k requesting refl (a .sole k l z);
     }),
     omega (arith, same-weight),
   )
@@ -88,24 +123,24 @@ module _ (b : Bool) (n : ℕ) (f g : ℕ → Cell) (mode-same : (k : ℕ) → g 
       here = a .here;
       next-lt = a .next-lt;
       apart = a .apart;
-      sender = in-step w (rowAt (a .d) .sender) (a .sender);
-      before = λ k l z y. in-place k (rowAt (a .d) .before) (a .before k l z y);
-      after = λ k l z y. in-place k (rowAt (a .d) .after) (a .after k l z y);
+      sender = in-step w (rowAt (a .d) .sender) (fair-row (λ r. r .sender) tt (a .d) (a .d-lt)) (a .sender);
+      before = λ k l z y. in-place k (rowAt (a .d) .before) (fair-row (λ r. r .before) tt (a .d) (a .d-lt)) (a .before k l z y);
+      after = λ k l z y. in-place k (rowAt (a .d) .after) (fair-row (λ r. r .after) tt (a .d) (a .d-lt)) (a .after k l z y);
       who = a .who;
-      sole = λ k l z y. in-place k (rowAt (a .d) .sole) (a .sole k l z y);
+      sole = λ k l z y. in-place k (rowAt (a .d) .sole) (fair-row (λ r. r .sole) tt (a .d) (a .d-lt)) (a .sole k l z y);
     },
-    ap (λ m. left w j n + rowRank (a .d) (stepOf m) n) (mode-same w),
+    ap (λ b. left w j n + (rowAt (a .d) .turns * n + rowAt (a .d) .more + b)) (same-step bonus refl (mode-same w)),
   )
   same-stage Granting a = (
     record {
-      steps = λ k l. in-step k grantSteps (a .steps k l);
+      steps = λ k l. in-step k grantSteps refl (a .steps k l);
       pends = some-agree (pendings g) (pendings f) n (λ k l. pend-same k) ∙ a .pends;
       who = a .who;
-      sole = λ k l z. in-place k requesting (a .sole k l z);
+      sole = λ k l z. in-place k requesting refl (a .sole k l z);
     },
     omega (arith, same-weight),
   )
-  same-stage (Gapping j) a = (record { gap-lt = a .gap-lt; calm = λ k l. in-place k quiet (a .calm k l); past = λ k l z. ap placeOf (mode-same k) ∙ a .past k l z }, refl)
+  same-stage (Gapping j) a = (record { gap-lt = a .gap-lt; calm = λ k l. in-place k quiet refl (a .calm k l); past = λ k l z. in-place k resting refl (a .past k l z) }, refl)
 
   same-goes : (fwd : Bool) (r : ℕ) (p : Phase) → Goes fwd r b p n f → Goes fwd r b p n g
   same-goes fwd r p a = let c = same-stage p (a .stage) in record { stage = c .0; lower = λ e. omega (arith, c .1, a .lower e) }
@@ -114,8 +149,8 @@ module _ (b : Bool) (n : ℕ) (f g : ℕ → Cell) (mode-same : (k : ℕ) → g 
 remarked-goes : (x : Marking) (t : State) (fwd : Bool) (r : ℕ) → Goes fwd r (concatenatedAfter x (t .concatenated)) (t .phase) (t .n) (t .cell) →
     Goes fwd r (remarked x t .concatenated) (remarked x t .phase) (remarked x t .n) (remarked x t .cell)
 remarked-goes M.Nothing t fwd r a = a
-remarked-goes M.Misled t fwd r a = same-goes (t .concatenated) (t .n) (t .cell) (remarked M.Misled t .cell) (λ k. refl) (λ k. refl) fwd r (t .phase) a
-remarked-goes M.Won t fwd r a = same-goes (t .concatenated) (t .n) (t .cell) (remarked M.Won t .cell) (λ k. refl) (λ k. refl) fwd r (t .phase) a
+remarked-goes M.Misled t fwd r a = same-goes (t .concatenated) (t .n) (t .cell) (remarked M.Misled t .cell) (λ k. same) (λ k. refl) fwd r (t .phase) a
+remarked-goes M.Won t fwd r a = same-goes (t .concatenated) (t .n) (t .cell) (remarked M.Won t .cell) (λ k. same) (λ k. refl) fwd r (t .phase) a
 remarked-goes (M.Concatenated b) t fwd r a = a
 
 remarked-marks : (x : Marking) (t : State) → ((k : ℕ) → Marks (t .cell k)) → (k : ℕ) → Marks (remarked x t .cell k)
@@ -132,6 +167,18 @@ remarked-last M.Nothing t h = h
 remarked-last M.Misled t h = h
 remarked-last M.Won t h = h
 remarked-last (M.Concatenated b) t h = h
+
+remarked-ready : (x : Marking) (t : State) → ((k : ℕ) → Ready (t .cell k)) → (k : ℕ) → Ready (remarked x t .cell k)
+remarked-ready M.Nothing t m k = m k
+remarked-ready M.Misled t m k = m k
+remarked-ready M.Won t m k = m k
+remarked-ready (M.Concatenated b) t m k = m k
+
+remarked-undecided : (x : Marking) (t : State) → undecided (remarked x t .cell) (remarked x t .n) ≡ undecided (t .cell) (t .n)
+remarked-undecided M.Nothing t = refl
+remarked-undecided M.Misled t = refl
+remarked-undecided M.Won t = refl
+remarked-undecided (M.Concatenated b) t = refl
 
 -- GRANTS. The node that is granted owes and has read its packet whole
 granted-owed : (m : Mode) → placeOf m ≡ P.owed → granted m ≡ Spurious
@@ -163,21 +210,28 @@ is-granted : (m : Mode) → (placeOf m ≡ P.owed) ⊎ (placeOf m ≡ P.told) �
 is-granted m (inl e) = let g = granted-owed m e in record { frees = ap (λ m. owing (placeOf m)) g; holds = ap (λ m. active (placeOf m)) g; step = ap (λ m. mem (stepOf m) (P.answering ∷ P.spurious ∷ [])) g; lighter = ap weigh e ∙ sym (ap (λ m. weigh (placeOf m) + 1) g) }
 is-granted m (inr e) = let g = granted-told m e in record { frees = ap (λ m. owing (placeOf m)) g; holds = ap (λ m. active (placeOf m)) g; step = ap (λ m. mem (stepOf m) (P.answering ∷ P.spurious ∷ [])) g; lighter = ap weigh e ∙ sym (ap (λ m. weigh (placeOf m) + 1) g) }
 
--- MARKS. What a holder puts out leaves its marks right: it owed nothing, and it goes on acting unless it put out an End
-puts-marks : (i : ℕ) (p : Packet) (m : Mode) (g : Signal) (m′ : Mode) (r : Report) → Puts i p m g m′ r → (owing (placeOf m) ≡ false) × (owing (placeOf m′) ≡ false) × (not (isEnd g) ≡ active (placeOf m′))
-puts-marks i p m g m′ r start = (refl, refl, refl)
-puts-marks i p m g m′ r dhead = (refl, refl, refl)
-puts-marks i p m g m′ r dest = (refl, refl, refl)
-puts-marks i p m g m′ r header = (refl, refl, refl)
-puts-marks i p m g m′ r datum = (refl, refl, refl)
-puts-marks i p m g m′ r (end-all l e) = (refl, refl, refl)
-puts-marks i p m g m′ r (end-one l e) = (refl, refl, refl)
-puts-marks i p m g m′ r filler = (refl, refl, refl)
-puts-marks i p m g m′ r ack-start = (refl, refl, refl)
-puts-marks i p m g m′ r ack-body = (refl, refl, refl)
-puts-marks i p m g m′ r (ack-hold l) = (refl, refl, refl)
-puts-marks i p m g m′ r (ack-end l) = (refl, refl, refl)
-puts-marks i p m g m′ r holds-on = (refl, refl, refl)
+-- MARKS. What a holder puts out leaves its marks right: it owed nothing, and it goes on acting unless it put out an End; and it is not Asked then
+puts-marks : (i : ℕ) (p : Packet) (m : Mode) (g : Signal) (m′ : Mode) (r : Report) → Puts i p m g m′ r → (owing (placeOf m) ≡ false) × (owing (placeOf m′) ≡ false) × (not (isEnd g) ≡ active (placeOf m′)) × (isAsked m′ ≡ false)
+puts-marks i p m g m′ r start = (refl, refl, refl, refl)
+puts-marks i p m g m′ r dhead = (refl, refl, refl, refl)
+puts-marks i p m g m′ r dest = (refl, refl, refl, refl)
+puts-marks i p m g m′ r header = (refl, refl, refl, refl)
+puts-marks i p m g m′ r datum = (refl, refl, refl, refl)
+puts-marks i p m g m′ r (end-all l e) = (refl, refl, refl, refl)
+puts-marks i p m g m′ r (end-one l e) = (refl, refl, refl, refl)
+puts-marks i p m g m′ r filler = (refl, refl, refl, refl)
+puts-marks i p m g m′ r ack-start = (refl, refl, refl, refl)
+puts-marks i p m g m′ r ack-body = (refl, refl, refl, refl)
+puts-marks i p m g m′ r (ack-hold l) = (refl, refl, refl, refl)
+puts-marks i p m g m′ r (ack-end l) = (refl, refl, refl, refl)
+puts-marks i p m g m′ r holds-on = (refl, refl, refl, refl)
+
+-- kinds 4 to 10 find no node Asked, and leave none
+unasked : (s : State) → not (someAsked s) ≡ true → (i : ℕ) → i < s .n → isAsked (s .cell i .mode) ≡ false
+unasked s u = none-of (askers (s .cell)) (s .n) (not-true _ u)
+
+granted-unasked : (m : Mode) → isAsked m ≡ false → isAsked (granted m) ≡ false
+granted-unasked m e = pick (λ x. isAsked x ≡ false) (isTold m) _ _ refl (pick (λ x. isAsked x ≡ false) (isOwed m) _ _ refl e)
 
 module _ (s : State) (v : Reach s) where
   abbrev n : ℕ
@@ -190,8 +244,9 @@ module _ (s : State) (v : Reach s) where
   own-marks : (m : Move) (i : ℕ) (r : Report) (p : Phase) (c : Cell) (x : Marking) → Effect s m i (does r p c x) → Marks c
   own-marks m i r p c x (waits e f) = ms i
   own-marks m i r p c x (replies e) = (ms i .0 ∙ ap (λ m. owing (placeOf m)) e, ms i .1 ∙ ap (λ m. active (placeOf m)) e)
-  own-marks m i r p c x (wins q e f w) = (ms i .0 ∙ ap owing e, refl)
-  own-marks m i r p c x loses = ms i
+  own-marks m i r p c x (claims e f) = (ms i .0 ∙ ap owing e, ms i .1 ∙ ap active e)
+  own-marks m i r p c x (wins d q f w) = (ms i .0 ∙ rest-at owing refl (s .cell i .mode) (contends-rests d), refl)
+  own-marks m i r p c x (loses d) = (ms i .0 ∙ rest-at owing refl (s .cell i .mode) (contends-rests d), ms i .1 ∙ rest-at active refl (s .cell i .mode) (contends-rests d))
   own-marks m i r p c x (gives e u) = (ms i .0 ∙ ap (λ m. owing (placeOf m)) e, ms i .1 ∙ ap (λ m. active (placeOf m)) e)
   own-marks m i r p c x (puts {g = g} {m = m′} q h o y) = let z = puts-marks i (s .cell i .sending) (s .cell i .mode) g m′ r y in (ms i .0 ∙ z .0 ∙ sym (z .1), z .2)
   own-marks m i r p c x (frees q h e) = (ms i .0 ∙ ap (λ m. owing (placeOf m)) e, refl)
@@ -209,6 +264,25 @@ module _ (s : State) (v : Reach s) where
   own-marks m i r p c x (gaps q u) = (ms i .0 ∙ sym (gap-owes i _ (s .cell i .mode)), ms i .1 ∙ sym (acts i _ (s .cell i .mode) Gap))
   own-marks m i r p c x (settles q u) = (ms i .0 ∙ sym (gap-owes i _ (s .cell i .mode)), ms i .1 ∙ sym (acts i _ (s .cell i .mode) Gap))
   own-marks m i r p c x (resets q) = ms i
+
+  -- who is Asked after an action has just asked, with a full buffer: no other action leaves its node Asked
+  now-asked : (m : Move) (i : ℕ) (r : Report) (p : Phase) (c : Cell) (x : Marking) → i < s .n → mayAct s m ≡ true → Effect s m i (does r p c x) →
+      (isAsked (c .mode) ≡ false) ⊎ ((forward s m ≡ false) × (isEmpty (c .buffer) ≡ false))
+  now-asked m i r p c x l u (waits e f) = inl (ap (λ p. eqb p P.asked) e)
+  now-asked m i r p c x l u (replies e) = inl refl
+  now-asked m i r p c x l u (claims e f) = inr (refl, f)
+  now-asked m i r p c x l u (wins d q f w) = inl refl
+  now-asked m i r p c x l u (loses d) = inl refl
+  now-asked m i r p c x l u (gives e z) = inl refl
+  now-asked m i r p c x l u (puts {g = g} {m = m′} q h o y) = inl (puts-marks i (s .cell i .sending) (s .cell i .mode) g m′ r y .3)
+  now-asked m i r p c x l u (frees q h e) = inl refl
+  now-asked m i r p c x l u (arrives {t = t} q y) = inl (hears-unasked i _ (s .cell i .mode) t (unasked s u i l))
+  now-asked m i r p c x l u (is-lost q e) = inl (unasked s u i l)
+  now-asked m i r p c x l u (grants q e z) = inl (granted-unasked (s .cell i .mode) (unasked s u i l))
+  now-asked m i r p c x l u (grants-none q e) = inl (unasked s u i l)
+  now-asked m i r p c x l u (gaps q z) = inl (hears-unasked i _ (s .cell i .mode) Gap (unasked s u i l))
+  now-asked m i r p c x l u (settles q z) = inl (hears-unasked i _ (s .cell i .mode) Gap (unasked s u i l))
+  now-asked m i r p c x l u (resets q) = inl (unasked s u i l)
 
   pub marks-kept : (m : Move) (i : ℕ) (r : Report) (p : Phase) (c : Cell) (x : Marking) → Effect s m i (does r p c x) → (k : ℕ) → Marks (remarked x (moved s p i c) .cell k)
   marks-kept m i r p c x y = remarked-marks x (moved s p i c) (λ k. at-upd (λ k c. Marks c) (s .cell) i c k (own-marks m i r p c x y) (ms k))
@@ -232,8 +306,9 @@ module _ (s : State) (v : Reach s) where
   own-last : (m : Move) (i : ℕ) (r : Report) (p : Phase) (c : Cell) (x : Marking) → i < s .n → Effect s m i (does r p c x) → concatenatedAfter x (s .concatenated) ≡ true → holdIn (c .mode) ≡ false
   own-last m i r p c x l (waits e f) z = v .last z i l
   own-last m i r p c x l (replies e) z = refl
-  own-last m i r p c x l (wins q e f w) z = refl
-  own-last m i r p c x l loses z = v .last z i l
+  own-last m i r p c x l (claims e f) z = refl
+  own-last m i r p c x l (wins d q f w) z = refl
+  own-last m i r p c x l (loses d) z = refl
   own-last m i r p c x l (gives {h = h} e u) z = not-true h (sym (ap (λ b. mayAnswer b h) z) ∙ u)
   own-last m i r p c x l (puts {g = g} {m = m′} q h o y) z = puts-last i l (s .cell i .mode) g m′ r refl y z
   own-last m i r p c x l (frees q h e) z = refl
@@ -249,8 +324,9 @@ module _ (s : State) (v : Reach s) where
   others-last : (m : Move) (i : ℕ) (r : Report) (p : Phase) (c : Cell) (x : Marking) → Effect s m i (does r p c x) → concatenatedAfter x (s .concatenated) ≡ true → (k : ℕ) → k ≢ i → k < s .n → holdIn (s .cell k .mode) ≡ false
   others-last m i r p c x (waits e f) z k o l = v .last z k l
   others-last m i r p c x (replies e) z k o l = v .last z k l
-  others-last m i r p c x (wins q e f w) z k o l = v .last z k l
-  others-last m i r p c x loses z k o l = v .last z k l
+  others-last m i r p c x (claims e f) z k o l = v .last z k l
+  others-last m i r p c x (wins d q f w) z k o l = v .last z k l
+  others-last m i r p c x (loses d) z k o l = v .last z k l
   others-last m i r p c x (gives e u) z k o l = v .last z k l
   others-last m i r p c x (puts q h u y) z k o l = no-hold (s .cell k .mode)
       (not-implied _ _ (law-mode (λ p. implies (eqb p P.acking) (active p)) tt (s .cell k .mode)) (sym (ms k .1) ∙ others-off (holders (s .cell)) (s .n) i u k l o))
@@ -614,7 +690,7 @@ shifts c′ t =
     && (eqb (turnAt (suc t) .round) (turnAt t .round) && allOf (within (turnAt (suc t) .sole) (turnAt t .sole)) (turnAt t .room))))))
 
 record Shift (c c′ e : ℕ) : Type 0 where
-  no-rest : c ≢ P.rest
+  not-resting : mem c resting ≡ false
   turn-on : T (every (λ t. implies (eqb (turnAt t .step) c) (shifts c′ t)) 17)
   not-room : T (every (λ t. not (mem c (turnAt t .room))) 17)
   sends-on : T (every (λ d. implies (mem c (rowAt d .sender)) (mem c′ (rowAt d .sender))) 22)
@@ -628,10 +704,10 @@ record Shift (c c′ e : ℕ) : Type 0 where
   asks-not : mem e requesting ≡ false
 
 responds : Shift P.answering (ackingAt 0) P.acking
-responds = record { no-rest = λ e. omega arith; turn-on = tt; not-room = tt; sends-on = tt; not-row = tt; clears-on = refl; grants-on = refl; lighter = refl; poorer = lit< tt; not-quiet = refl; acting-on = refl; asks-not = refl }
+responds = record { not-resting = refl; turn-on = tt; not-room = tt; sends-on = tt; not-row = tt; clears-on = refl; grants-on = refl; lighter = refl; poorer = lit< tt; not-quiet = refl; acting-on = refl; asks-not = refl }
 
 asks : Shift P.holding (sendingAt 0) P.sending
-asks = record { no-rest = λ e. omega arith; turn-on = tt; not-room = tt; sends-on = tt; not-row = tt; clears-on = refl; grants-on = refl; lighter = refl; poorer = lit< tt; not-quiet = refl; acting-on = refl; asks-not = refl }
+asks = record { not-resting = refl; turn-on = tt; not-room = tt; sends-on = tt; not-row = tt; clears-on = refl; grants-on = refl; lighter = refl; poorer = lit< tt; not-quiet = refl; acting-on = refl; asks-not = refl }
 
 module _ (b : Bool) (n : ℕ) (f : ℕ → Cell) (i : ℕ) (l : i < n) (c c′ e : ℕ) (y : Shift c c′ e) (x : Cell)
     (at-step : stepOf (f i .mode) ≡ c) (at-place : placeOf (f i .mode) ≡ c) (to-step : stepOf (x .mode) ≡ c′) (to-place : placeOf (x .mode) ≡ e) (pend : x .pending ≡ f i .pending) where
@@ -668,7 +744,7 @@ module _ (b : Bool) (n : ℕ) (f : ℕ → Cell) (i : ℕ) (l : i < n) (c c′ e
   but-on t t′ h k q z u = ap (λ d. mem (placeOf (d .mode)) (turnAt t′ .sole)) (upd-other f i x k q) ∙ not-within (turnAt t′ .sole) (turnAt t .sole) (turnAt t .room) h (placeOf (f k .mode)) z u
 
   shift : (p : Phase) (a : Stage b p n f) → Goes true (rank b p n f a) b p n shifted
-  shift Idle a = absurd (y .no-rest (sym at-place ∙ a .resting i l))
+  shift Idle a = clash _ (ap (λ c. mem c resting) (sym at-place) ∙ a .rests i l) (y .not-resting)
   shift Busy (clears a) =
       let t : mem c clearSteps ≡ true = ap (λ c. mem c clearSteps) (sym at-step) ∙ a .steps i l in
       record {
@@ -745,10 +821,10 @@ module _ (b : Bool) (n : ℕ) (f : ℕ → Cell) (i : ℕ) (l : i < n) (c c′ e
 
 -- a step of Sending, or of Acking past its first, is no step of clearing
 pub odd-clear : (k : ℕ) → mem (sendingAt k) clearSteps ≡ false
-odd-clear k = rw (ne-eqb (31 + 2 * k) 0 (λ e. omega arith), ne-eqb (31 + 2 * k) 1 (λ e. omega arith), ne-eqb (31 + 2 * k) 15 (λ e. omega arith), ne-eqb (31 + 2 * k) 19 (λ e. omega arith), ne-eqb (31 + 2 * k) 22 (λ e. omega arith), ne-eqb (31 + 2 * k) 30 (λ e. omega arith))
+odd-clear k = rw (ne-eqb (31 + 2 * k) 0 (λ e. omega arith), ne-eqb (31 + 2 * k) 1 (λ e. omega arith), ne-eqb (31 + 2 * k) 15 (λ e. omega arith), ne-eqb (31 + 2 * k) 19 (λ e. omega arith), ne-eqb (31 + 2 * k) 22 (λ e. omega arith), ne-eqb (31 + 2 * k) 24 (λ e. omega arith), ne-eqb (31 + 2 * k) 30 (λ e. omega arith))
 
 pub even-clear : (k : ℕ) → 1 ≤ k → mem (ackingAt k) clearSteps ≡ false
-even-clear k h = rw (ne-eqb (30 + 2 * k) 0 (λ e. omega arith), ne-eqb (30 + 2 * k) 1 (λ e. omega arith), ne-eqb (30 + 2 * k) 15 (λ e. omega arith), ne-eqb (30 + 2 * k) 19 (λ e. omega arith), ne-eqb (30 + 2 * k) 22 (λ e. omega arith), ne-eqb (30 + 2 * k) 30 (λ e. omega arith))
+even-clear k h = rw (ne-eqb (30 + 2 * k) 0 (λ e. omega arith), ne-eqb (30 + 2 * k) 1 (λ e. omega arith), ne-eqb (30 + 2 * k) 15 (λ e. omega arith), ne-eqb (30 + 2 * k) 19 (λ e. omega arith), ne-eqb (30 + 2 * k) 22 (λ e. omega arith), ne-eqb (30 + 2 * k) 24 (λ e. omega arith), ne-eqb (30 + 2 * k) 30 (λ e. omega arith))
 
 -- A SIGNAL IS PUT OUT. A clock of the node whose turn it is puts out a signal of kind q and leaves it at step e: the row that follows, by the tables; with k = 1 the row after it, of the next round (Acking's closing Prefix)
 clocks : Bool → ℕ → ℕ → ℕ → Turn → Bool
@@ -929,10 +1005,6 @@ module _ (s : State) (v : Reach s) (i : ℕ) (l : i < s .n) where
       x = freed (s .cell i)
 
 -- THE WAYS
--- a fact about what is left, in a phase that is known
-on-phase : (b : Bool) (n : ℕ) (f : ℕ → Cell) (P : ℕ → Type 0) (p q : Phase) → p ≡ q → (a : Stage b p n f) → ((c : Stage b q n f) → P (rank b q n f c)) → P (rank b p n f a)
-on-phase b n f P p q e a = subst (λ x. ((c : Stage b x n f) → P (rank b x n f c)) → P (rank b p n f a)) e (λ h. h a)
-
 module _ (s : State) (v : Reach s) where
   abbrev mark : Bool
   mark = s .concatenated
@@ -940,11 +1012,29 @@ module _ (s : State) (v : Reach s) where
   abbrev now : ℕ
   now = rank mark (s .phase) (s .n) (s .cell) (v .stage)
 
-  -- the one cell that changes keeps its mode and its pending mark
-  unmoved : (fwd : Bool) (i : ℕ) (c : Cell) → c .mode ≡ s .cell i .mode → c .pending ≡ s .cell i .pending → fwd ≡ false → Goes fwd now mark (s .phase) (s .n) (upd (s .cell) i c)
-  unmoved fwd i c e q f =
-      same-goes mark (s .n) (s .cell) (upd (s .cell) i c) (λ k. at-upd (λ k c. c .mode ≡ s .cell k .mode) (s .cell) i c k e refl) (λ k. at-upd (λ k c. c .pending ≡ s .cell k .pending) (s .cell) i c k q refl)
-      fwd now (s .phase) (record { stage = v .stage; lower = λ z. clash fwd z f })
+  -- what is left, with 1 for node i where it is Asked; an action counts where it is forward and the bus is not Idle
+  abbrev left-with : ℕ → ℕ
+  left-with i = now + one (isAsked (s .cell i .mode))
+
+  abbrev counting : Move → Bool
+  counting m = forward s m && not (isIdle (s .phase))
+
+  counts : (fwd : Bool) (m : Move) (r k : ℕ) (b : Bool) (p : Phase) (f : ℕ → Cell) → (forward s m ≡ true → fwd ≡ true) → Goes fwd r b p (s .n) f → Goes (counting m) (r + k) b p (s .n) f
+  counts fwd m r k b p f h g = record { stage = g .stage; lower = λ e. omega (arith, g .lower (h (and-true (forward s m) _ e .0))) }
+
+  -- the one cell that changes keeps its pending mark, and its mode but for Rest and Asked
+  unmoved : (m : Move) (i : ℕ) (c : Cell) → Same (s .cell i .mode) (c .mode) → c .pending ≡ s .cell i .pending → (forward s m ≡ true → isAsked (s .cell i .mode) ≡ true) →
+      Goes (counting m) (left-with i) mark (s .phase) (s .n) (upd (s .cell) i c)
+  unmoved m i c e q h =
+      same-goes mark (s .n) (s .cell) (upd (s .cell) i c) (λ k. at-upd (λ k c. Same (s .cell k .mode) (c .mode)) (s .cell) i c k e same) (λ k. at-upd (λ k c. c .pending ≡ s .cell k .pending) (s .cell) i c k q refl)
+      (counting m) (left-with i) (s .phase) (record { stage = v .stage; lower = λ z. omega (arith, ap one (h (and-true (forward s m) _ z .0))) })
+
+  -- in a phase q that is known
+  on-phase : (fwd : Bool) (m : Move) (i : ℕ) (b : Bool) (p : Phase) (c : Cell) (q : Phase) → (forward s m ≡ true → fwd ≡ true) → s .phase ≡ q →
+      ((a : Stage mark q (s .n) (s .cell)) → Goes fwd (rank mark q (s .n) (s .cell) a) b p (s .n) (upd (s .cell) i c)) → Goes (counting m) (left-with i) b p (s .n) (upd (s .cell) i c)
+  on-phase fwd m i b p c q h e g =
+      counts fwd m now _ b p _ h
+      (subst (λ x. ((a : Stage mark x (s .n) (s .cell)) → Goes fwd (rank mark x (s .n) (s .cell) a) b p (s .n) (upd (s .cell) i c)) → Goes fwd now b p (s .n) (upd (s .cell) i c)) e (λ g. g (v .stage)) g)
 
   won-goes : (i : ℕ) (c : Cell) → i < s .n → s .phase ≡ Idle → c .mode ≡ Sending 0 → Goes false now mark Busy (s .n) (upd (s .cell) i c)
   won-goes i c l q e = record {
@@ -955,9 +1045,9 @@ module _ (s : State) (v : Reach s) where
       w = i;
       here = l;
       talker = ap (λ d. stepOf (d .mode)) (upd-same (s .cell) i c) ∙ ap stepOf e;
-      room = λ k z o. ap (λ d. mem (placeOf (d .mode)) (P.rest ∷ [])) (upd-other (s .cell) i c k o) ∙ ap (λ p. mem p (P.rest ∷ [])) (idle .resting k z);
+      room = λ k z o. ap (λ d. mem (placeOf (d .mode)) resting) (upd-other (s .cell) i c k o) ∙ idle .rests k z;
       who = i;
-      sole = λ k z o y. ap (λ d. mem (placeOf (d .mode)) requesting) (upd-other (s .cell) i c k o) ∙ ap (λ p. mem p requesting) (idle .resting k z);
+      sole = λ k z o y. ap (λ d. mem (placeOf (d .mode)) requesting) (upd-other (s .cell) i c k o) ∙ rest-at (λ p. mem p requesting) refl (s .cell k .mode) (idle .rests k z);
     });
     lower = never;
   }
@@ -1005,7 +1095,7 @@ module _ (s : State) (v : Reach s) where
           (λ q z. owes-no (s .cell k .mode) (a .steps k z) (sym (v .marks k .0) ∙ others-off (pendings (s .cell)) (s .n) i o k z q)) z
 
   -- node j gets its Gap, and others are to come; or it was the last, and the bus is Idle and unmarked
-  module _ (j : ℕ) (a : GappingAt (s .n) (s .cell) j) where
+  module _ (j : ℕ) (a : GappingAt (s .n) (s .cell) j) (u : isAsked (s .cell j .mode) ≡ false) where
     abbrev x : Cell
     x = afterGap j (s .cell j)
 
@@ -1013,10 +1103,11 @@ module _ (s : State) (v : Reach s) where
     gapped = upd (s .cell) j x
 
     rested : placeOf (receives hears j (s .cell j) Gap .mode) ≡ P.rest
-    rested = eqb-true _ _ (implied (mem (placeOf (s .cell j .mode)) quiet) _ (law (λ y p c. implies (eqb c S.gap) (implies (mem p quiet) (eqb (y .place) P.rest))) tt j _ (s .cell j .mode) Gap) (a .calm j (a .gap-lt)))
+    rested = eqb-true _ _ (implied (mem (placeOf (s .cell j .mode)) quiet) _ (implied (not (isAsked (s .cell j .mode))) _
+        (law (λ y p c. implies (eqb c S.gap) (implies (not (eqb p P.asked)) (implies (mem p quiet) (eqb (y .place) P.rest)))) tt j _ (s .cell j .mode) Gap) (ap not u)) (a .calm j (a .gap-lt)))
 
-    low : (k : ℕ) → k < s .n → k < suc j → placeOf (gapped k .mode) ≡ P.rest
-    low k l z = at-upd≢ (λ k c. k < s .n → k < suc j → placeOf (c .mode) ≡ P.rest) (s .cell) j x k (λ l z. rested) (λ q l z. a .past k l (omega arith)) l z
+    low : (k : ℕ) → k < s .n → k < suc j → mem (placeOf (gapped k .mode)) resting ≡ true
+    low k l z = at-upd≢ (λ k c. k < s .n → k < suc j → mem (placeOf (c .mode)) resting ≡ true) (s .cell) j x k (λ l z. ap (λ p. mem p resting) rested) (λ q l z. a .past k l (omega arith)) l z
 
     still : (k : ℕ) → k < s .n → mem (placeOf (gapped k .mode)) quiet ≡ true
     still k l = at-upd (λ k c. k < s .n → mem (placeOf (c .mode)) quiet ≡ true) (s .cell) j x k (λ l. ap (λ p. mem p quiet) rested) (a .calm k) l
@@ -1025,7 +1116,7 @@ module _ (s : State) (v : Reach s) where
     gapped-goes l = record { stage = record { gap-lt = l; calm = still; past = low }; lower = λ z. omega arith }
 
     settled-goes : s .n ≤ suc j → Goes true (s .n - j) false Idle (s .n) gapped
-    settled-goes l = record { stage = record { unmarked = refl; resting = λ k z. low k z (omega arith) }; lower = λ z. omega (arith, a .gap-lt) }
+    settled-goes l = record { stage = record { unmarked = refl; rests = λ k z. low k z (omega arith) }; lower = λ z. omega (arith, a .gap-lt) }
 
   -- what arrives is of the same kind as what was put out
   same-kind : (b : Bool) (y : Way) (g t : Signal) (c : Bool) → Arrives b y g t c → kindOf t ≡ kindOf g
@@ -1035,42 +1126,57 @@ module _ (s : State) (v : Reach s) where
   same-kind b y g t c bad-data = refl
   same-kind b y g t c bad-ack = refl
 
-  moves-on : (m : Move) (i : ℕ) (r : Report) (p : Phase) (c : Cell) (x : Marking) → i < s .n → Effect s m i (does r p c x) → Goes (forward s m) now (concatenatedAfter x mark) p (s .n) (upd (s .cell) i c)
-  moves-on m i r p c x l (waits e f) = unmoved _ i c refl refl (ap (λ p. eqb p P.holding) e)
-  moves-on m i r p c x l (replies e) =
-      let g = shift mark (s .n) (s .cell) i l P.holding (sendingAt 0) P.sending asks c (ap stepOf e) (ap placeOf e) refl refl refl (s .phase) (v .stage) in record { stage = g .stage; lower = λ z. g .lower refl }
-  moves-on m i r p c x l (wins q e f w) = won-goes i c l q refl
-  moves-on m i r p c x l loses = unmoved _ i c refl refl refl
-  moves-on m i r p c x l (gives e u) = shift mark (s .n) (s .cell) i l P.answering (ackingAt 0) P.acking responds c (ap stepOf e) (ap placeOf e) refl refl refl (s .phase) (v .stage)
-  moves-on m i r p c x l (puts {g = g} {m = m′} q h o y) = on-phase mark (s .n) (s .cell) (λ z. Goes (forward s m) z (concatenatedAfter x mark) p (s .n) (upd (s .cell) i c)) (s .phase) Busy q (v .stage) go
+  moves-on : (m : Move) (i : ℕ) (r : Report) (p : Phase) (c : Cell) (x : Marking) → i < s .n → mayAct s m ≡ true → Effect s m i (does r p c x) → Goes (counting m) (left-with i) (concatenatedAfter x mark) p (s .n) (upd (s .cell) i c)
+  moves-on m i r p c x l u (waits e f) = unmoved m i c same refl (λ z. clash _ z (ap (λ p. eqb p P.holding) e))
+  moves-on m i r p c x l u (replies e) =
+      counts true m now _ _ p _ (λ z. refl) (shift mark (s .n) (s .cell) i l P.holding (sendingAt 0) P.sending asks c (ap stepOf e) (ap placeOf e) refl refl refl (s .phase) (v .stage))
+  moves-on m i r p c x l u (claims e f) = unmoved m i c (rests (ap (λ p. mem p resting) e) refl) refl never
+  moves-on m i r p c x l u (wins d q f w) = let g = won-goes i c l q refl in record { stage = g .stage; lower = λ z. clash _ (and-true (forward s m) _ z .1) (ap (λ p. not (isIdle p)) q) }
+  moves-on m i r p c x l u (loses (at-once e)) = unmoved m i c (rests (ap (λ p. mem p resting) e) refl) refl never
+  moves-on m i r p c x l u (loses (asked e)) = unmoved m i c (rests (ap (λ p. mem p resting) e) refl) refl (λ z. ap (λ p. eqb p P.asked) e)
+  moves-on m i r p c x l u (gives e o) = counts true m now _ _ p _ (λ z. refl) (shift mark (s .n) (s .cell) i l P.answering (ackingAt 0) P.acking responds c (ap stepOf e) (ap placeOf e) refl refl refl (s .phase) (v .stage))
+  moves-on m i r p c x l u (puts {g = g} {m = m′} q h o y) = on-phase (forward s m) m i _ p c Busy (λ z. z) q go
     where
       go : (c : BusyAt mark (s .n) (s .cell)) → Goes (not (isAnswering (s .cell i .mode) || isHolding (s .cell i .mode))) (busyRank mark (s .n) (s .cell) c) (concatenatedAfter (markingBy (s .cell i .mode) g) mark) (Delivering i g (firstOther i)) (s .n) (upd (s .cell) i (putsOut g m′ (s .cell i)))
       go (talks a) = puts-turn s v i l a (s .cell i .mode) g m′ r refl y
       go (clears a) = puts-clear s v i l a o (s .cell i .mode) g m′ r refl y
-  moves-on m i r p c x l (frees q h e) = on-phase mark (s .n) (s .cell) (λ z. Goes (forward s m) z (concatenatedAfter x mark) p (s .n) (upd (s .cell) i c)) (s .phase) Busy q (v .stage) (λ b. forward-it (go b))
+  moves-on m i r p c x l u (frees q h e) = on-phase true m i _ p c Busy (λ z. refl) q go
     where
       go : (c : BusyAt mark (s .n) (s .cell)) → Goes true (busyRank mark (s .n) (s .cell) c) mark (afterFree (s .n) i (holders (s .cell))) (s .n) (upd (s .cell) i (freed (s .cell i)))
       go (talks a) = absurd (no-turn mark (s .n) (s .cell) a P.spurious tt (ap (λ i. stepOf (s .cell i .mode)) (sym (is-talker mark (s .n) (s .cell) a i l (ap (λ m. active (placeOf m)) e))) ∙ ap stepOf e))
       go (clears a) = pick-by (λ z. Goes true (clearRank mark (s .n) (s .cell)) mark z (s .n) (upd (s .cell) i (freed (s .cell i)))) (others (holders (s .cell)) i (s .n)) _ _ (λ o. frees-one s v i l a o (ap placeOf e)) (λ o. frees-goes s v i l a o (ap placeOf e))
-
-      forward-it : {z : ℕ} {p : Phase} {f : ℕ → Cell} → Goes true z mark p (s .n) f → Goes (not (isAnswering (s .cell i .mode) || isHolding (s .cell i .mode))) z mark p (s .n) f
-      forward-it {z} {p} {f} g = record { stage = g .stage; lower = λ e. g .lower refl }
-  moves-on m i r p c x l (arrives {v = y} {w = w} {g = g} {t = t} {b = b} q z) = on-phase mark (s .n) (s .cell) (λ z. Goes true z (concatenatedAfter x mark) p (s .n) (upd (s .cell) i c)) (s .phase) (Delivering w g i) q (v .stage) λ a.
-      delivered-goes s w g i a c (heard-lands (a .d) (a .d-lt) i _ (s .cell i .mode) t (same-kind _ y g t b z ∙ a .kind) (a .before i (a .next-lt) (a .apart) (omega arith))) (λ k. at-upd (λ k c. Marks c) (s .cell) i c k (own-marks s v m i r p c x (arrives q z)) (v .marks k))
-  moves-on m i r p c x l (is-lost {w = w} {g = g} q e) = on-phase mark (s .n) (s .cell) (λ z. Goes true z (concatenatedAfter x mark) p (s .n) (upd (s .cell) i c)) (s .phase) (Delivering w g i) q (v .stage) λ a.
+  moves-on m i r p c x l u (arrives {v = y} {w = w} {g = g} {t = t} {b = b} q z) = on-phase true m i _ p c (Delivering w g i) (λ z. refl) q λ a.
+      delivered-goes s w g i a c (heard-lands (a .d) (a .d-lt) i _ (s .cell i .mode) t (unasked s u i l) (same-kind _ y g t b z ∙ a .kind) (a .before i (a .next-lt) (a .apart) (omega arith))) (λ k. at-upd (λ k c. Marks c) (s .cell) i c k (own-marks s v m i r p c x (arrives q z)) (v .marks k))
+  moves-on m i r p c x l u (is-lost {w = w} {g = g} q e) = on-phase true m i _ p c (Delivering w g i) (λ z. refl) q λ a.
       delivered-goes s w g i a c (lost-lands (a .d) (a .d-lt) (subst (λ q. leb 6 q ≡ true) (a .kind) e) (s .cell i .mode) (a .before i (a .next-lt) (a .apart) (omega arith)))
       (λ k. at-upd (λ k c. Marks c) (s .cell) i c k (v .marks i) (v .marks k))
-  moves-on m i r p c x l (grants q e z) = on-phase mark (s .n) (s .cell) (λ z. Goes true z (concatenatedAfter x mark) p (s .n) (upd (s .cell) i c)) (s .phase) Granting q (v .stage) λ a.
+  moves-on m i r p c x l u (grants q e z) = on-phase true m i _ p c Granting (λ z. refl) q λ a.
       granted-goes i l (subst (λ i. s .cell i .pending ≡ true) z (lowest-of (pendings (s .cell)) (s .n) 0 e)) a c refl refl
-  moves-on m i r p c x l (grants-none q e) = on-phase mark (s .n) (s .cell) (λ z. Goes true z (concatenatedAfter x mark) p (s .n) (upd (s .cell) i c)) (s .phase) Granting q (v .stage) λ a. clash _ (a .pends) e
-  moves-on m i r p c x l (gaps q u) = on-phase mark (s .n) (s .cell) (λ z. Goes true z (concatenatedAfter x mark) p (s .n) (upd (s .cell) i c)) (s .phase) (Gapping i) q (v .stage) (λ a. gapped-goes i a u)
-  moves-on m i r p c x l (settles q u) = on-phase mark (s .n) (s .cell) (λ z. Goes true z (concatenatedAfter x mark) p (s .n) (upd (s .cell) i c)) (s .phase) (Gapping i) q (v .stage) (λ a. settled-goes i a u)
-  moves-on m i r p c x l (resets q) = unmoved _ i c refl refl refl
+  moves-on m i r p c x l u (grants-none q e) = on-phase true m i _ p c Granting (λ z. refl) q λ a. clash _ (a .pends) e
+  moves-on m i r p c x l u (gaps q z) = on-phase true m i _ p c (Gapping i) (λ z. refl) q (λ a. gapped-goes i a (unasked s u i l) z)
+  moves-on m i r p c x l u (settles q z) = on-phase true m i _ p c (Gapping i) (λ z. refl) q (λ a. settled-goes i a (unasked s u i l) z)
+  moves-on m i r p c x l u (resets q) = unmoved m i c same refl never
 
-  -- an accepted action keeps what every reached state has, and a forward one leaves less to do
-  pub effect-reach : (m : Move) (i : ℕ) (r : Report) (p : Phase) (c : Cell) (x : Marking) → i < s .n → Effect s m i (does r p c x) →
-      (u : Reach (remarked x (moved s p i c)))
-      × (forward s m ≡ true → rank (remarked x (moved s p i c) .concatenated) (remarked x (moved s p i c) .phase) (remarked x (moved s p i c) .n) (remarked x (moved s p i c) .cell) (u .stage) < now)
-  effect-reach m i r p c x l y =
-      let g = remarked-goes x (moved s p i c) (forward s m) now (moves-on m i r p c x l y) in
-      (record { two = subst (λ n. 2 ≤ n) (sym (remarked-n x (moved s p i c))) (v .two); marks = marks-kept s v m i r p c x y; stage = g .stage; last = last-kept s v m i r p c x l y }, g .lower)
+  -- an accepted action keeps what every reached state has, and a forward one leaves less to do, unless the bus is Idle
+  pub effect-reach : (m : Move) (i : ℕ) (r : Report) (p : Phase) (c : Cell) (x : Marking) → i < s .n → mayAct s m ≡ true → Effect s m i (does r p c x) →
+      (u : Reach (remarked x (moved s p i c))) × (forward s m ≡ true → isIdle (s .phase) ≡ false → toGo (remarked x (moved s p i c)) u < toGo s v)
+  effect-reach m i r p c x l u y =
+      let g = remarked-goes x (moved s p i c) (counting m) (left-with i) (moves-on m i r p c x l u y) in
+      let z = now-asked s v m i r p c x l u y in (
+        record {
+          two = subst (λ n. 2 ≤ n) (sym (remarked-n x (moved s p i c))) (v .two);
+          marks = marks-kept s v m i r p c x y;
+          ready = remarked-ready x (moved s p i c) (λ k. at-upd (λ k c. Ready c) (s .cell) i c k (full z) (v .ready k));
+          stage = g .stage;
+          last = last-kept s v m i r p c x l y;
+        },
+        λ f q. omega (arith, g .lower (both _ _ f (ap not q)), remarked-undecided x (moved s p i c), undecided-upd (s .cell) i c (s .n) l, gone z f),
+      )
+    where
+      full : (isAsked (c .mode) ≡ false) ⊎ ((forward s m ≡ false) × (isEmpty (c .buffer) ≡ false)) → Ready c
+      full (inl e) q = clash _ q e
+      full (inr e) q = e .1
+
+      gone : (isAsked (c .mode) ≡ false) ⊎ ((forward s m ≡ false) × (isEmpty (c .buffer) ≡ false)) → forward s m ≡ true → one (isAsked (c .mode)) ≡ 0
+      gone (inl e) f = ap one e
+      gone (inr e) f = clash _ f (e .0)

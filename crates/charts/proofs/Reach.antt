@@ -1,10 +1,10 @@
--- What holds of every state that a run reaches: each node's marks say what its mode is, the bus is at one of the stages, and while it is marked nobody will hold it again.
--- Then what follows of who holds the bus.
+-- What holds of every state that a run reaches: each node's marks say what its mode is, one that is Asked has a full buffer, the bus is at one of the stages, and while it is marked nobody
+-- will hold it again. Then what follows of who holds the bus.
 use mathlib.Core.Path.{_≡_, refl, sym, ap, subst, _∙_}
 use mathlib.Core.Logic.{_≢_}
 use mathlib.Core.Bool.{Bool, true, false, _&&_, _||_, not}
 use mathlib.Core.List.{List, [], _∷_}
-use Prim.Native.Nat.{ℕ, _<_, _≤_}
+use Prim.Native.Nat.{ℕ, _<_, _≤_, _+_}
 use native.Mathlib.Omega.{arith}
 use lib.Dec.{T, eqb, ltb}
 use borrow.Author.Tests.{eqb-true, eqb-false, ltb-true, ltb-false, eq-eqb, not-true}
@@ -12,25 +12,34 @@ use Rattle.charts.specs.declared.Mode.{Mode}
 use Rattle.charts.specs.declared.Signal.{Signal}
 use Rattle.charts.specs.declared.Cell.{Cell}
 use Rattle.charts.specs.Modes as P
-use Rattle.charts.specs.Modes.{placeOf}
+use Rattle.charts.specs.Modes.{placeOf, isAsked}
 use Rattle.charts.specs.Places.{stepIn, holdIn}
-use Rattle.charts.specs.State.{State, holders, others, every, fresh}
+use Rattle.charts.specs.State.{State, holders, others, every, fresh, isEmpty}
 use Rattle.charts.proofs.Tools.{never, clash, implies, implied, and-true, pick-by, table-at, others-off, mem, everyIn, mem-sub}
 use Rattle.charts.proofs.Places.{law-mode, owing, active, stepAt, stepOf}
-use Rattle.charts.proofs.Stages.{Row, rowAt, Turn, turnAt, quiet, clearSteps, Delivery, Talk, Stage}
+use Rattle.charts.proofs.Stages.{Row, rowAt, Turn, turnAt, quiet, clearSteps, Delivery, Talk, Stage, rank, undecided}
 
 -- a node is pending where its mode owes, and a holder where its mode acts
 abbrev pub Marks : Cell → Type 0
 Marks c = (c .pending ≡ owing (placeOf (c .mode))) × (c .holder ≡ active (placeOf (c .mode)))
 
+-- a node that is Asked has a full buffer
+abbrev pub Ready : Cell → Type 0
+Ready c = isAsked (c .mode) ≡ true → isEmpty (c .buffer) ≡ false
+
 pub record Reach (s : State) : Type 0 where
   pub two : 2 ≤ s .n
   pub marks : (k : ℕ) → Marks (s .cell k)
+  pub ready : (k : ℕ) → Ready (s .cell k)
   pub stage : Stage (s .concatenated) (s .phase) (s .n) (s .cell)
   pub last : s .concatenated ≡ true → (k : ℕ) → k < s .n → holdIn (s .cell k .mode) ≡ false
 
 pub start : (n : ℕ) → 2 ≤ n → Reach (fresh n)
-start n h = record { two = h; marks = λ k. (refl, refl); stage = record { unmarked = refl; resting = λ k l. refl }; last = λ e. never e }
+start n h = record { two = h; marks = λ k. (refl, refl); ready = λ k e. never e; stage = record { unmarked = refl; rests = λ k l. refl }; last = λ e. never e }
+
+-- what is left to do: for the stage, and for the nodes that are Asked
+abbrev pub toGo : (s : State) → Reach s → ℕ
+toGo s r = rank (s .concatenated) (s .phase) (s .n) (s .cell) (r .stage) + undecided (s .cell) (s .n)
 
 -- the places of a node that was told of a packet and answers
 abbrev pub answerers : List ℕ
@@ -71,7 +80,7 @@ step-place m a =
 -- places that do not act
 abbrev pub passive : List ℕ
 passive =
-    P.rest ∷ P.awaitAck ∷ P.ackBody ∷ P.ackGood ∷ P.ackNone ∷ P.opened ∷ P.addressed ∷ P.headOwn ∷ P.headAll ∷ P.bodyOwn ∷ P.bodyAll
+    P.rest ∷ P.asked ∷ P.awaitAck ∷ P.ackBody ∷ P.ackGood ∷ P.ackNone ∷ P.opened ∷ P.addressed ∷ P.headOwn ∷ P.headAll ∷ P.bodyOwn ∷ P.bodyAll
     ∷ P.tailOwnGood ∷ P.tailOwnBad ∷ P.tailAllGood ∷ P.tailAllBad ∷ P.wait ∷ P.owed ∷ P.told ∷ P.listening ∷ []
 
 pub is-passive : (l : List ℕ) → everyIn l passive ≡ true → (m : Mode) → mem (placeOf m) l ≡ true → active (placeOf m) ≡ false

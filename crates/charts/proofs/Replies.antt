@@ -17,7 +17,7 @@ use Rattle.charts.specs.declared.Cell.{Cell}
 use Rattle.charts.specs.declared.Marking.{Marking}
 use Rattle.charts.specs.declared.Marking.the-variants as M
 use Rattle.charts.specs.declared.Move.{Move}
-use Rattle.charts.specs.declared.Move.the-variants.{Request, Arbitrate, Respond, Clock, Carry, Grant, GapNext, Reset}
+use Rattle.charts.specs.declared.Move.the-variants.{Request, Arbitrate, Respond, Clock, Carry, Grant, GapNext, Reset, Ask, Decide}
 use Rattle.charts.specs.declared.Action.{Action}
 use Rattle.charts.specs.Modes as P
 use Rattle.charts.specs.Modes.{placeOf, isTold, isOwed, isHolding, isAcking}
@@ -31,8 +31,8 @@ use Rattle.charts.specs.Step.{Result, Event, step, eventOf, isAccepted}
 use Rattle.charts.specs.Demand.{one, meetsIdle}
 use Rattle.charts.specs.Replies.{isReply, repliesIn}
 use Rattle.charts.proofs.Tools.{never, clash, implies, not-implied, or-false, pick, by-test, at-upd, at-upd≢, mem}
-use Rattle.charts.proofs.Places.{law, active, stepAt, stepOf}
-use Rattle.charts.proofs.Ways.{Puts, start, dhead, dest, header, datum, end-all, end-one, filler, ack-start, ack-body, ack-hold, ack-end, holds-on, Effect, waits, replies, wins, loses, gives, puts, frees, arrives, is-lost, grants, grants-none, gaps, settles, resets}
+use Rattle.charts.proofs.Places.{law, active, stepAt, stepOf, resting}
+use Rattle.charts.proofs.Ways.{Contends, at-once, asked, Puts, start, dhead, dest, header, datum, end-all, end-one, filler, ack-start, ack-body, ack-hold, ack-end, holds-on, Effect, waits, replies, claims, wins, loses, gives, puts, frees, arrives, is-lost, grants, grants-none, gaps, settles, resets}
 use Rattle.charts.proofs.Steps.{Known, Stepped, refused, acts, stepped}
 use Rattle.charts.proofs.Stages.{roundOf, grantSteps, clearSteps, quiet, talks, clears, Stage}
 use Rattle.charts.proofs.Reach.{Reach, is-talker, is-sender, row-fact, turn-fact, not-clearing}
@@ -55,7 +55,7 @@ holds-alone b p n f a i l e = go p a
     acting k q = ap active q
 
     go : (p : Phase) → Stage b p n f → (b ≡ true) × ((k : ℕ) → k < n → placeOf (f k .mode) ≡ P.holding → k ≡ i)
-    go Idle a = let z : _≡_ {A = ℕ} P.rest P.holding = sym (a .resting i l) ∙ e in absurd (omega arith)
+    go Idle a = clash _ (a .rests i l) (ap (λ p. mem p resting) e)
     go Busy (talks a) =
         let w = is-talker b n f a i l (acting i e) in
         let r = turn-fact b n f a P.holding (subst (λ k. stepOf (f k .mode) ≡ P.holding) w step) (λ t. eqb (t .round) 1) tt in
@@ -99,6 +99,11 @@ puts-none i p m g m′ r h e (ack-hold k) = absurd (true≢false h)
 puts-none i p m g m′ r h e (ack-end k) = refl
 puts-none i p m g m′ r h e holds-on = e
 
+-- who contends for the bus does not reply
+contends-none : {s : State} {i : ℕ} {m : Move} → Contends s i m → isReply s m ≡ false
+contends-none (at-once e) = refl
+contends-none (asked e) = refl
+
 module _ (s : State) (v : Reach s) where
   -- a reply is the last
   spends : (m : Move) (i : ℕ) (r : Report) (p : Phase) (c : Cell) (x : Marking) → i < s .n → Effect s m i (does r p c x) → isReply s m ≡ true → Spent (remarked x (moved s p i c))
@@ -107,8 +112,9 @@ module _ (s : State) (v : Reach s) where
       let h = holds-alone (s .concatenated) (s .phase) (s .n) (s .cell) (v .stage) i l (ap placeOf e) in
       remarked-spent x (moved s p i c) (h .0) λ k.
       at-upd≢ (λ k c. k < s .n → isHolding (c .mode) ≡ false) (s .cell) i c k (λ d. refl) λ o d. by-test (isHolding (s .cell k .mode)) (λ q. absurd (o (h .1 k d (eqb-true _ _ q)))) (λ q. q)
-  spends m i r p c x l (wins q e f w) z = never z
-  spends m i r p c x l loses z = never z
+  spends m i r p c x l (claims e f) z = never z
+  spends m i r p c x l (wins d q f w) z = clash _ z (contends-none d)
+  spends m i r p c x l (loses d) z = clash _ z (contends-none d)
   spends m i r p c x l (gives e u) z = never z
   spends m i r p c x l (puts q h o y) z = never z
   spends m i r p c x l (frees q h e) z = never z
@@ -124,8 +130,9 @@ module _ (s : State) (v : Reach s) where
     own-none : (m : Move) (i : ℕ) (r : Report) (p : Phase) (c : Cell) (x : Marking) → i < s .n → Effect s m i (does r p c x) → isHolding (c .mode) ≡ false
     own-none m i r p c x l (waits e f) = u .none i l
     own-none m i r p c x l (replies e) = refl
-    own-none m i r p c x l (wins q e f w) = refl
-    own-none m i r p c x l loses = u .none i l
+    own-none m i r p c x l (claims e f) = refl
+    own-none m i r p c x l (wins d q f w) = refl
+    own-none m i r p c x l (loses d) = refl
     own-none m i r p c x l (gives e y) = refl
     own-none m i r p c x l (puts {g = g} {m = m′} q h o y) = puts-none i (s .cell i .sending) (s .cell i .mode) g m′ r (v .last (u .marked) i l) (u .none i l) y
     own-none m i r p c x l (frees q h e) = refl
@@ -142,8 +149,9 @@ module _ (s : State) (v : Reach s) where
     stays-marked : (m : Move) (i : ℕ) (r : Report) (p : Phase) (c : Cell) (x : Marking) → isIdle p ≡ false → Effect s m i (does r p c x) → concatenatedAfter x (s .concatenated) ≡ true
     stays-marked m i r p c x z (waits e f) = u .marked
     stays-marked m i r p c x z (replies e) = u .marked
-    stays-marked m i r p c x z (wins q e f w) = u .marked
-    stays-marked m i r p c x z loses = u .marked
+    stays-marked m i r p c x z (claims e f) = u .marked
+    stays-marked m i r p c x z (wins d q f w) = u .marked
+    stays-marked m i r p c x z (loses d) = u .marked
     stays-marked m i r p c x z (gives e y) = u .marked
     stays-marked m i r p c x z (puts {g = g} q h o y) =
         pick (λ x. concatenatedAfter x (s .concatenated) ≡ true) (isStart g) _ _ (u .marked)
@@ -180,6 +188,8 @@ no-reply s u (Carry w) k = refl
 no-reply s u Grant k = refl
 no-reply s u GapNext k = refl
 no-reply s u Reset k = refl
+no-reply s u (Ask i) k = refl
+no-reply s u (Decide i) k = refl
 
 -- after the reply none starts before Idle
 none-more : (s : State) → Reach s → Spent s → (l : List Action) → meetsIdle s l ≡ false → repliesIn s l ≡ 0
@@ -189,10 +199,10 @@ none-more s v u (a ∷ l) m = go (step s a) (eventOf a (step s a)) (stepped s a)
     go : (x : Result) (e : Event) → Stepped s a x e → ((t : State) → Reach t → Spent t → meetsIdle t l ≡ false → repliesIn t l ≡ 0) → meetsIdle (x .state) l ≡ false →
         one (isAccepted x && isReply s (moveOf a)) + repliesIn (x .state) l ≡ 0
     go x e (refused q) h m = rw q (omega (arith, h s v u m))
-    go x e (acts {i = i} {r = r} {p = p} {c = c} {x = y} w k b z) h m =
+    go x e (acts {i = i} {r = r} {p = p} {c = c} {x = y} w k b f z) h m =
         let t = remarked y (moved s p i c) in
         let on : isIdle p ≡ false = ap isIdle (sym (remarked-phase y (moved s p i c))) ∙ not-idle t l m in
-        rw (no-reply s u (moveOf a) k) (omega (arith, h t (effect-reach s v (moveOf a) i r p c y b z .0) (stays-spent s v u (moveOf a) i r p c y b on z) m))
+        rw (no-reply s u (moveOf a) k) (omega (arith, h t (effect-reach s v (moveOf a) i r p c y b f z .0) (stays-spent s v u (moveOf a) i r p c y b on z) m))
 
 pub at-most-one : (s : State) → Reach s → (l : List Action) → meetsIdle s l ≡ false → repliesIn s l ≤ 1
 at-most-one s v [] m = omega arith
@@ -201,7 +211,7 @@ at-most-one s v (a ∷ l) m = go (step s a) (eventOf a (step s a)) (stepped s a)
     go : (x : Result) (e : Event) → Stepped s a x e → ((t : State) → Reach t → meetsIdle t l ≡ false → repliesIn t l ≤ 1) → meetsIdle (x .state) l ≡ false →
         one (isAccepted x && isReply s (moveOf a)) + repliesIn (x .state) l ≤ 1
     go x e (refused q) h m = rw q (omega (arith, h s v m))
-    go x e (acts {i = i} {r = r} {p = p} {c = c} {x = y} w k b z) h m =
+    go x e (acts {i = i} {r = r} {p = p} {c = c} {x = y} w k b f z) h m =
         let t = remarked y (moved s p i c) in
-        let on = effect-reach s v (moveOf a) i r p c y b z .0 in
+        let on = effect-reach s v (moveOf a) i r p c y b f z .0 in
         by-test (isReply s (moveOf a)) (λ q. rw q (omega (arith, none-more t on (spends s v (moveOf a) i r p c y b z q) l m))) (λ q. rw q (omega (arith, h t on m)))

@@ -1,8 +1,8 @@
 -- The stages of a transaction as tables: at each stage the places in which the sender and the other nodes may be, and how many forward actions are left at most.
 -- Round 0 is the packet of the node that won, with its acknowledgement; round 1 is what a node sends that kept the bus (hold 1), with its acknowledgement. The mark of the bus says which round it is.
-use mathlib.Core.Path.{_≡_, refl, sym, subst}
+use mathlib.Core.Path.{_≡_, refl, sym, ap, subst}
 use mathlib.Core.Logic.{_≢_}
-use mathlib.Core.Bool.{Bool, true, false, cond, _&&_}
+use mathlib.Core.Bool.{Bool, true, false, cond, _&&_, not}
 use mathlib.Core.List.{List, [], _∷_}
 use Prim.Native.Nat.{ℕ, zero, suc, _<_, _≤_, _+_, _-_, _*_}
 use lib.Dec.{T, eqb, ltb, leb}
@@ -15,14 +15,15 @@ use Rattle.charts.specs.declared.Phase.the-variants.{Idle, Busy, Deliver
 use Rattle.charts.specs.declared.Cell.{Cell}
 use Rattle.charts.specs.declared.Entry.{Entry}
 use Rattle.charts.specs.Modes as P
-use Rattle.charts.specs.Modes.{placeOf}
+use Rattle.charts.specs.Modes.{placeOf, isAsked}
 use Rattle.charts.specs.Signals as S
 use Rattle.charts.specs.Signals.{classOf, kindOf}
 use Rattle.charts.specs.Reception.{hears}
 use Rattle.charts.specs.Table.{entry}
-use Rattle.charts.specs.State.{pendings, some, every}
+use Rattle.charts.specs.State.{pendings, some, every, askers}
 use Rattle.charts.proofs.Tools.{implies, implied, not-implied, and-true, both, pick, table-at, everyPair, mem, everyIn, mem-sub}
-use Rattle.charts.proofs.Places.{law, active, sendingAt, ackingAt, stepOf}
+use Rattle.charts.proofs.Places.{law, active, sendingAt, ackingAt, stepOf, resting}
+use Rattle.charts.specs.Demand.{one}
 
 -- A signal under way: its kind, its round, the steps of its sender, the places of the other nodes before and after they heard it.
 -- At most one of the others stands in a place of `sole`: the requester, and in the packet of round 1 the node that reads it, who was the requester of round 0.
@@ -53,10 +54,10 @@ abbrev dataRead : List ℕ
 dataRead = P.headOwn ∷ P.headAll ∷ P.bodyOwn ∷ P.bodyAll ∷ P.tailOwnGood ∷ P.tailOwnBad ∷ P.tailAllGood ∷ P.tailAllBad ∷ P.wait ∷ P.owed ∷ []
 
 abbrev pub packetRead : List ℕ
-packetRead = P.rest ∷ P.wait ∷ P.owed ∷ P.told ∷ []
+packetRead = P.rest ∷ P.asked ∷ P.wait ∷ P.owed ∷ P.told ∷ []
 
 abbrev pub quiet : List ℕ
-quiet = P.rest ∷ P.awaitAck ∷ P.wait ∷ []
+quiet = P.rest ∷ P.asked ∷ P.awaitAck ∷ P.wait ∷ []
 
 abbrev ackOpened : List ℕ
 ackOpened = P.ackBody ∷ P.opened ∷ P.wait ∷ []
@@ -77,7 +78,7 @@ abbrev replyHeaded : List ℕ
 replyHeaded = P.addressed ∷ P.wait ∷ []
 
 abbrev pub ended : List ℕ
-ended = P.rest ∷ P.awaitAck ∷ []
+ended = P.rest ∷ P.asked ∷ P.awaitAck ∷ []
 
 -- a requester that has put out its packet, up to the end of the acknowledgement; a node that reads a concatenated packet, up to its end
 abbrev pub requesting : List ℕ
@@ -95,7 +96,7 @@ answering = P.answering ∷ ackingAt 0 ∷ []
 abbrev pub rows : List Row
 rows =
     -- 0 to 5: the packet of the node that won
-    row 0 0 (sendingAt 1 ∷ []) (P.rest ∷ []) (P.opened ∷ []) requesting 20 1 1
+    row 0 0 (sendingAt 1 ∷ []) resting (P.opened ∷ []) requesting 20 1 1
     ∷ row 4 0 (sendingAt 2 ∷ []) (P.opened ∷ []) (P.addressed ∷ []) requesting 19 1 2
     ∷ row 5 0 (sendingAt 3 ∷ []) (P.addressed ∷ []) addressedTo requesting 18 1 3
     ∷ row 6 0 (sendingAt 4 ∷ []) addressedTo headRead requesting 17 1 4
@@ -105,7 +106,7 @@ rows =
     ∷ row 2 0 answering quiet quiet requesting 13 3 17
     ∷ row 0 0 (ackingAt 1 ∷ []) quiet ackOpened requesting 12 3 6
     ∷ row 8 0 (ackingAt 2 ∷ []) ackOpened ackRead requesting 11 3 7
-    ∷ row 1 0 (P.rest ∷ []) ackRead waiting requesting 1 0 17
+    ∷ row 1 0 resting ackRead waiting requesting 1 0 17
     ∷ row 2 1 (P.holding ∷ sendingAt 0 ∷ []) ackRead listeners requesting 10 2 8
     -- 11: a filler of Holding; 12 to 17: the packet that it sends
     ∷ row 2 1 (P.holding ∷ sendingAt 0 ∷ []) listeners listeners requesting 10 2 8
@@ -119,7 +120,7 @@ rows =
     ∷ row 2 1 answering quiet quiet requesting 4 0 17
     ∷ row 0 1 (ackingAt 1 ∷ []) quiet ackOpened requesting 3 0 15
     ∷ row 8 1 (ackingAt 2 ∷ []) ackOpened ackRead requesting 2 0 16
-    ∷ row 1 1 (P.rest ∷ []) ackRead waiting requesting 1 0 17
+    ∷ row 1 1 resting ackRead waiting requesting 1 0 17
     ∷ []
 
 abbrev pub rowAt : ℕ → Row
@@ -148,7 +149,7 @@ turn s r k l t m d = record { step = s; round = r; room = k; sole = l; turns = t
 
 abbrev pub turns : List Turn
 turns =
-    turn (sendingAt 0) 0 (P.rest ∷ []) requesting 21 1 0
+    turn (sendingAt 0) 0 resting requesting 21 1 0
     ∷ turn (sendingAt 1) 0 (P.opened ∷ []) requesting 20 1 1
     ∷ turn (sendingAt 2) 0 (P.addressed ∷ []) requesting 19 1 2
     ∷ turn (sendingAt 3) 0 addressedTo requesting 18 1 3
@@ -172,10 +173,10 @@ turnAt t = getD turns t (turn 0 0 [] [] 0 0 0)
 
 -- the steps of all nodes while the bus grants, and after that while spurious holders end and the addressed node answers
 abbrev pub grantSteps : List ℕ
-grantSteps = P.rest ∷ P.awaitAck ∷ P.wait ∷ P.owed ∷ P.told ∷ P.answering ∷ P.spurious ∷ ackingAt 0 ∷ []
+grantSteps = P.rest ∷ P.asked ∷ P.awaitAck ∷ P.wait ∷ P.owed ∷ P.told ∷ P.answering ∷ P.spurious ∷ ackingAt 0 ∷ []
 
 abbrev pub clearSteps : List ℕ
-clearSteps = P.rest ∷ P.awaitAck ∷ P.wait ∷ P.answering ∷ P.spurious ∷ ackingAt 0 ∷ []
+clearSteps = P.rest ∷ P.asked ∷ P.awaitAck ∷ P.wait ∷ P.answering ∷ P.spurious ∷ ackingAt 0 ∷ []
 
 abbrev pub acting : (ℕ → Cell) → ℕ → Bool
 acting f k = active (placeOf (f k .mode))
@@ -231,11 +232,11 @@ pub data BusyAt (b : Bool) (n : ℕ) (f : ℕ → Cell) : Type 0 where
 pub record GappingAt (n : ℕ) (f : ℕ → Cell) (j : ℕ) : Type 0 where
   pub gap-lt : j < n
   pub calm : (k : ℕ) → k < n → mem (placeOf (f k .mode)) quiet ≡ true
-  pub past : (k : ℕ) → k < n → k < j → placeOf (f k .mode) ≡ P.rest
+  pub past : (k : ℕ) → k < n → k < j → mem (placeOf (f k .mode)) resting ≡ true
 
 pub record IdleAt (b : Bool) (n : ℕ) (f : ℕ → Cell) : Type 0 where
   pub unmarked : b ≡ false
-  pub resting : (k : ℕ) → k < n → placeOf (f k .mode) ≡ P.rest
+  pub rests : (k : ℕ) → k < n → mem (placeOf (f k .mode)) resting ≡ true
 
 abbrev pub Stage : Bool → Phase → ℕ → (ℕ → Cell) → Type 0
 Stage b Idle n f = IdleAt b n f
@@ -283,6 +284,10 @@ rank b (Delivering w g j) n f a = left w j n + rowRank (a .d) (stepOf (f w .mode
 rank b Granting n f a = clearRank b n f
 rank b (Gapping j) n f a = n - j
 
+-- and 1 for each node that is Asked, at every stage: it is to be decided before anything else goes on
+abbrev pub undecided : (ℕ → Cell) → ℕ → ℕ
+undecided f n = total (λ k. one (askers f k)) n
+
 -- The classes in which a signal of a kind can arrive
 abbrev pub arrivals : List (List ℕ)
 arrivals =
@@ -301,12 +306,13 @@ comes me (Header h good) = pick (λ c. mem c (S.headerGood ∷ S.headerBad ∷ [
 comes me (Data d good) = pick (λ c. mem c (S.dataGood ∷ S.dataBad ∷ []) ≡ true) good _ _ refl refl
 comes me (Ack a good) = pick (λ c. mem c (S.ackGood ∷ S.ackBad ∷ []) ≡ true) good _ _ refl refl
 
--- one computed test over 22 rows, 24 places and 14 classes: each node that was in a place of `before` comes to one of `after`, and to one of `sole` only if it was in one
+-- one computed test over 22 rows, 25 places and 14 classes: each node that was in a place of `before`, and is not Asked, comes to one of `after`, and to one of `sole` only if it was in one
 leads : ℕ → Entry → ℕ → ℕ → Bool
 leads d y p c =
-    implies (mem p (rowAt d .before) && mem c (getD arrivals (rowAt d .kind) [])) (mem (y .place) (rowAt d .after) && implies (mem (y .place) (rowAt d .sole)) (mem p (rowAt d .sole)))
+    implies (not (eqb p P.asked)) (implies (mem p (rowAt d .before) && mem c (getD arrivals (rowAt d .kind) []))
+    (mem (y .place) (rowAt d .after) && implies (mem (y .place) (rowAt d .sole)) (mem p (rowAt d .sole))))
 
-all-lead : T (every (λ d. everyPair (λ p c. leads d (entry p c) p c) 24 14) 22)
+all-lead : T (every (λ d. everyPair (λ p c. leads d (entry p c) p c) 25 14) 22)
 unfolding leads
 all-lead = tt
 
@@ -318,12 +324,12 @@ pub record Lands (d p : ℕ) (m : Mode) : Type 0 where
   pub after : mem p (rowAt d .after) ≡ true
   pub sole : mem (placeOf m) (rowAt d .sole) ≡ false → mem p (rowAt d .sole) ≡ false
 
-pub heard-lands : (d : ℕ) → d < 22 → (me label : ℕ) (m : Mode) (s : Signal) → kindOf s ≡ rowAt d .kind → mem (placeOf m) (rowAt d .before) ≡ true → Lands d (placeOf (hears me label m s .mode)) m
+pub heard-lands : (d : ℕ) → d < 22 → (me label : ℕ) (m : Mode) (s : Signal) → isAsked m ≡ false → kindOf s ≡ rowAt d .kind → mem (placeOf m) (rowAt d .before) ≡ true → Lands d (placeOf (hears me label m s .mode)) m
 unfolding leads
-heard-lands d h me label m s e t =
-    let z = and-true _ _ (implied _ _ (law (leads d) (holds (table-at (λ d. everyPair (λ p c. leads d (entry p c) p c) 24 14) 22 all-lead d h)) me label m s)
+heard-lands d h me label m s q e t =
+    let z = and-true _ _ (implied _ _ (implied (not (isAsked m)) _ (law (leads d) (holds (table-at (λ d. everyPair (λ p c. leads d (entry p c) p c) 25 14) 22 all-lead d h)) me label m s) (ap not q))
     (both _ _ t (subst (λ k. mem (classOf me s) (getD arrivals k []) ≡ true) e (comes me s)))) in
-    record { after = z .0; sole = λ q. not-implied _ _ (z .1) q }
+    record { after = z .0; sole = λ u. not-implied _ _ (z .1) u }
 
 -- a signal that is lost leaves a node where it is allowed too: Header, Data and Ack
 pub lost-lands : (d : ℕ) → d < 22 → leb 6 (rowAt d .kind) ≡ true → (m : Mode) → mem (placeOf m) (rowAt d .before) ≡ true → Lands d (placeOf m) m

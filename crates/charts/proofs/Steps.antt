@@ -5,7 +5,7 @@ use mathlib.Core.List.{List, [], _∷_}
 use Prim.Native.Nat.{ℕ, _<_, _≤_}
 use native.Mathlib.Omega.{arith}
 use lib.Dec.{eqb, ltb}
-use borrow.Author.Tests.{eqb-true, ltb-true, not-false}
+use borrow.Author.Tests.{eqb-true, eqb-false, ltb-true, ltb-false, lt-ltb, not-false}
 use Rattle.charts.specs.declared.Report.{Report}
 use Rattle.charts.specs.declared.Report.the-variants as R
 use Rattle.charts.specs.declared.Phase.{Phase}
@@ -15,17 +15,17 @@ use Rattle.charts.specs.declared.Marking.{Marking}
 use Rattle.charts.specs.declared.Marking.the-variants as M
 use Rattle.charts.specs.declared.Way.the-variants.{Pass, Lose, Change}
 use Rattle.charts.specs.declared.Move.{Move}
-use Rattle.charts.specs.declared.Move.the-variants.{Request, Arbitrate, Respond, Clock, Carry, Grant, GapNext, Reset}
+use Rattle.charts.specs.declared.Move.the-variants.{Request, Arbitrate, Respond, Clock, Carry, Grant, GapNext, Reset, Ask, Decide}
 use Rattle.charts.specs.declared.Action.{Action}
 use Rattle.charts.specs.declared.Decoded.{Decoded}
 use Rattle.charts.specs.declared.Decoded.the-variants.{Refused, Accepted}
 use Rattle.charts.specs.Numbers as N
 use Rattle.charts.specs.State.{State, pendings, remarked}
-use Rattle.charts.specs.Actions.{Outcome, closed, does, nextOf}
+use Rattle.charts.specs.Actions.{Outcome, closed, does, nextOf, when}
 use Rattle.charts.specs.Records.{isKind, namesNode, namesAddress, clean, isAddress, isLabel, moveOf, badNode, badAddress, badLabel, badAnswer, read}
 use Rattle.charts.specs.Valid.{isSize, isAck, packetFits, phaseFits, cellFits, valid}
-use Rattle.charts.specs.Step.{Result, refuses, carryOut, about, comesTo, play, look, stepWith, step, after, Event, refusal, accepted, eventOf}
-use Rattle.charts.proofs.Tools.{never, and-true, both, pick-by, lowest-below, every-at}
+use Rattle.charts.specs.Step.{Result, refuses, carryOut, about, play, look, stepWith, step, after, Event, refusal, accepted, eventOf, outcomeOf, mayAct}
+use Rattle.charts.proofs.Tools.{never, and-true, both, pick-by, lowest-below, every-at, by-test}
 use Rattle.charts.proofs.Ways.{Effect, effect}
 
 -- the fields of a move are in their ranges: the node below n, the address an address, the label at most 63, the acknowledgement at most 15
@@ -40,6 +40,8 @@ Known n (Carry (Change b)) = isAddress n b ≡ true
 Known n Grant = Unit {0}
 Known n GapNext = Unit {0}
 Known n Reset = Unit {0}
+Known n (Ask i) = i < n
+Known n (Decide i) = i < n
 
 implied-or : (a b : Bool) → a && not b ≡ false → a ≡ true → b ≡ true
 implied-or true b e q = not-false b e
@@ -49,6 +51,12 @@ implied-or false b e q = never q
 pub data Decodes (n : ℕ) (a : Action) : Decoded → Type 0 where
   turned : {k : ℕ} → eqb k N.accepted ≡ false → Decodes n a (Refused k)
   taken : Known n (moveOf a) → Decodes n a (Accepted (moveOf a))
+
+-- past kind 10 a node is named
+names-last : (k : ℕ) → eqb k 5 ≡ false → eqb k 6 ≡ false → eqb k 7 ≡ false → eqb k 8 ≡ false → eqb k 9 ≡ false → eqb k 10 ≡ false → namesNode k ≡ true
+names-last k e5 e6 e7 e8 e9 e10 =
+    by-test (ltb k 5) (λ e. rw e) λ e.
+    rw (e, lt-ltb 10 k (omega (arith, ltb-false k 5 e, eqb-false k 5 e5, eqb-false k 6 e6, eqb-false k 7 e7, eqb-false k 8 e8, eqb-false k 9 e9, eqb-false k 10 e10)))
 
 move-known : (n : ℕ) (a : Action) → (namesNode (a .kind) ≡ true → a .node < n) → (namesAddress (a .kind) ≡ true → isAddress n (a .address) ≡ true) → isLabel (a .label) ≡ true → isAck (a .ack) ≡ true → Known n (moveOf a)
 unfolding moveOf
@@ -61,7 +69,9 @@ move-known n a node addr label ack =
     pick-by K (eqb k 6) _ _ (λ e. tt) λ e6.
     pick-by K (eqb k 7) _ _ (λ e. addr (ap namesAddress (eqb-true k 7 e))) λ e7.
     pick-by K (eqb k 8) _ _ (λ e. tt) λ e8.
-    pick-by K (eqb k 9) _ _ (λ e. tt) λ e9. tt
+    pick-by K (eqb k 9) _ _ (λ e. tt) λ e9.
+    pick-by K (eqb k 10) _ _ (λ e. tt) λ e10.
+    pick-by K (eqb k 11) _ _ (λ e. node (ap namesNode (eqb-true k 11 e))) λ e11. node (names-last k e5 e6 e7 e8 e9 e10)
   where
     k : ℕ
     k = a .kind
@@ -113,27 +123,34 @@ about-lt s v (Carry w) k = next-lt (s .n) (s .phase) (v .two) (v .phase-fits)
 about-lt s v Grant k = lowest-below (pendings (s .cell)) (s .n) 0 (s .n) (omega arith) (omega (arith, v .two))
 about-lt s v GapNext k = next-lt (s .n) (s .phase) (v .two) (v .phase-fits)
 about-lt s v Reset k = omega (arith, v .two)
+about-lt s v (Ask i) k = k
+about-lt s v (Decide i) k = k
 
 -- a step's answer with its event
 pub data Stepped (s : State) (a : Action) : Result → Event → Type 0 where
   refused : {k : ℕ} → eqb k N.accepted ≡ false → Stepped s a (refuses s k) (refusal k)
-  acts : {i : ℕ} {r : Report} {p : Phase} {c : Cell} {x : Marking} → Valid s → Known (s .n) (moveOf a) → i < s .n → Effect s (moveOf a) i (does r p c x) →
+  acts : {i : ℕ} {r : Report} {p : Phase} {c : Cell} {x : Marking} → Valid s → Known (s .n) (moveOf a) → i < s .n → mayAct s (moveOf a) ≡ true → Effect s (moveOf a) i (does r p c x) →
       Stepped s a (carryOut s i (does r p c x)) (accepted (moveOf a) r)
 
 pub stepped : (s : State) (a : Action) → Stepped s a (step s a) (eventOf a (step s a))
 unfolding step look play
 stepped s a = pick-by (λ d. Stepped s a (stepWith s d) (eventOf a (stepWith s d))) (valid s) _ _ (λ e. go e (read (s .n) a) (decodes (s .n) a)) (λ e. refused refl)
   where
-    out : valid s ≡ true → Known (s .n) (moveOf a) → (o : Outcome) → Effect s (moveOf a) (about s (moveOf a)) o → Stepped s a (carryOut s (about s (moveOf a)) o) (eventOf a (carryOut s (about s (moveOf a)) o))
-    out e k closed x = refused refl
-    out e k (does r p c y) x = acts (is-valid s e) k (about-lt s (is-valid s e) (moveOf a) k) x
+    out : valid s ≡ true → Known (s .n) (moveOf a) → mayAct s (moveOf a) ≡ true → (o : Outcome) → Effect s (moveOf a) (about s (moveOf a)) o → Stepped s a (carryOut s (about s (moveOf a)) o) (eventOf a (carryOut s (about s (moveOf a)) o))
+    out e k f closed x = refused refl
+    out e k f (does r p c y) x = acts (is-valid s e) k (about-lt s (is-valid s e) (moveOf a) k) f x
+
+    may : valid s ≡ true → Known (s .n) (moveOf a) → (b : Bool) → mayAct s (moveOf a) ≡ b →
+        Stepped s a (carryOut s (about s (moveOf a)) (when b (outcomeOf s (moveOf a)))) (eventOf a (carryOut s (about s (moveOf a)) (when b (outcomeOf s (moveOf a)))))
+    may e k true f = out e k f (outcomeOf s (moveOf a)) (effect s (moveOf a))
+    may e k false f = refused refl
 
     turn : (k : ℕ) → eqb k N.accepted ≡ false → Stepped s a (refuses s k) (cond (eqb k N.accepted) (accepted (moveOf a) R.Silent) (refusal k))
     turn k e = subst (λ b. Stepped s a (refuses s k) (cond b (accepted (moveOf a) R.Silent) (refusal k))) (sym e) (refused e)
 
     go : valid s ≡ true → (d : Decoded) → Decodes (s .n) a d → Stepped s a (stepWith s d) (eventOf a (stepWith s d))
     go e (Refused k) (turned q) = turn k q
-    go e (Accepted m) (taken k) = out e k (comesTo s (moveOf a)) (effect s (moveOf a))
+    go e (Accepted m) (taken k) = may e k (mayAct s (moveOf a)) refl
 
 -- the number of nodes never changes
 pub remarked-n : (x : Marking) (t : State) → remarked x t .n ≡ t .n
@@ -147,7 +164,7 @@ step-n s a = go (step s a) (eventOf a (step s a)) (stepped s a)
   where
     go : (x : Result) (e : Event) → Stepped s a x e → x .state .n ≡ s .n
     go x e (refused q) = refl
-    go x e (acts {x = y} v k l z) = remarked-n y _
+    go x e (acts {x = y} v k l f z) = remarked-n y _
 
 pub run-n : (s : State) (l : List Action) → after s l .n ≡ s .n
 run-n s [] = refl

@@ -17,7 +17,7 @@ use Rattle.charts.specs.declared.Phase.{Phase}
 use Rattle.charts.specs.declared.Cell.{Cell}
 use Rattle.charts.specs.declared.Marking.{Marking}
 use Rattle.charts.specs.declared.Move.{Move}
-use Rattle.charts.specs.declared.Move.the-variants.{Request, Arbitrate, Respond, Clock, Carry, Grant, GapNext, Reset}
+use Rattle.charts.specs.declared.Move.the-variants.{Request, Arbitrate, Respond, Clock, Carry, Grant, GapNext, Reset, Ask, Decide}
 use Rattle.charts.specs.declared.Action.{Action}
 use Rattle.charts.specs.State.{State, fresh}
 use Rattle.charts.specs.Actions.{does}
@@ -58,6 +58,8 @@ single s n (Carry w) o e = loud (record { no-entry = λ y b. refl; no-hold = λ 
 single s n Grant o e = loud (record { no-entry = λ y b. refl; no-hold = λ i h. refl; no-request = λ i. refl; no-respond = refl }) o
 single s n GapNext o e = loud (record { no-entry = λ y b. refl; no-hold = λ i h. refl; no-request = λ i. refl; no-respond = refl }) o
 single s n Reset o e = loud (record { no-entry = λ y b. refl; no-hold = λ i h. refl; no-request = λ i. refl; no-respond = refl }) o
+single s n (Ask j) o e = loud (record { no-entry = λ y b. refl; no-hold = λ i h. refl; no-request = λ i. refl; no-respond = refl }) o
+single s n (Decide j) o e = loud (record { no-entry = λ y b. refl; no-hold = λ i h. refl; no-request = λ i. refl; no-respond = refl }) o
 
 below : (n i : ℕ) (r : Report) → i < n → Of i r → (r ≡ Silent) ⊎ (nodeOf r < n)
 below n i r h (nothing e) = inl e
@@ -69,7 +71,7 @@ step-single s a = go (step s a) (eventOf a (step s a)) (stepped s a)
   where
     go : (r : Result) (e : Event) → Stepped s a r e → Single (s .n) e
     go r e (Steps.refused q) = refused
-    go r e (acts {i = i} {r = t} v k l x) = single s (s .n) _ (below (s .n) i t l (event-names s x .reporter)) x
+    go r e (acts {i = i} {r = t} v k l f x) = single s (s .n) _ (below (s .n) i t l (event-names s x .reporter)) x
 
 -- so is every event of a run
 abbrev Singles : ℕ → List Event → Type 0

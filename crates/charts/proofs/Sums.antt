@@ -8,12 +8,13 @@ use lib.Dec.{eqb, ltb}
 use borrow.Author.Tests.{eqb-true, eqb-false, ltb-true, ltb-false, lt-ltb, le-ltb, leb-true}
 use Rattle.charts.specs.declared.Mode.{Mode}
 use Rattle.charts.specs.declared.Cell.{Cell}
-use Rattle.charts.specs.Modes.{placeOf}
+use Rattle.charts.specs.Modes.{placeOf, isAsked}
 use Rattle.charts.specs.State.{upd}
 use Rattle.charts.specs.Actions.{firstOther, nextOther}
-use Rattle.charts.proofs.Tools.{pick-by, by-test, upd-same, upd-other}
+use Rattle.charts.proofs.Tools.{pick-by, by-test, upd-same, upd-other, pick}
+use Rattle.charts.specs.Demand.{one}
 use Rattle.charts.proofs.Places.{law-mode}
-use Rattle.charts.proofs.Stages.{weigh, weights, total, left}
+use Rattle.charts.proofs.Stages.{weigh, weights, total, left, undecided}
 
 pub total-le : (v : ℕ → ℕ) (n : ℕ) → ((k : ℕ) → v k ≤ 2) → total v n ≤ 2 * n
 total-le v zero h = omega arith
@@ -63,11 +64,21 @@ total-sole v n who h z = by-test (ltb who n)
 pub weigh-le : (m : Mode) → weigh (placeOf m) ≤ 2
 weigh-le m = leb-true _ 2 (law-mode (λ p. lib.Dec.leb (weigh p) 2) tt m)
 
--- the sum of the weights after another cell at i
+-- a sum over the cells after another cell at i: of the weights, and of the nodes that are Asked
+pub sum-upd : (h : Cell → ℕ) (f : ℕ → Cell) (i : ℕ) (c : Cell) (n : ℕ) → i < n → total (λ k. h (upd f i c k)) n + h (f i) ≡ total (λ k. h (f k)) n + h c
+sum-upd h f i c n l =
+    total-diff (λ k. h (upd f i c k)) (λ k. h (f k)) i n (λ k z q. ap h (upd-other f i c k q)) l
+    ∙ ap (λ d. total (λ k. h (f k)) n + h d) (upd-same f i c)
+
 pub weights-upd : (f : ℕ → Cell) (i : ℕ) (c : Cell) (n : ℕ) → i < n → total (weights (upd f i c)) n + weights f i ≡ total (weights f) n + weigh (placeOf (c .mode))
-weights-upd f i c n l =
-    total-diff (weights (upd f i c)) (weights f) i n (λ k z q. ap (λ d. weigh (placeOf (d .mode))) (upd-other f i c k q)) l
-    ∙ ap (λ d. total (weights f) n + weigh (placeOf (d .mode))) (upd-same f i c)
+weights-upd f i c n l = sum-upd (λ d. weigh (placeOf (d .mode))) f i c n l
+
+pub undecided-upd : (f : ℕ → Cell) (i : ℕ) (c : Cell) (n : ℕ) → i < n → undecided (upd f i c) n + one (isAsked (f i .mode)) ≡ undecided f n + one (isAsked (c .mode))
+undecided-upd f i c n l = sum-upd (λ d. one (isAsked (d .mode))) f i c n l
+
+pub undecided-le : (f : ℕ → Cell) (n : ℕ) → undecided f n ≤ n
+undecided-le f zero = omega arith
+undecided-le f (suc n) = omega (arith, undecided-le f n, pick (λ x. x ≤ 1) (isAsked (f n .mode)) 1 0 (omega arith) (omega arith))
 
 -- the next receiver after j
 pub next-is : (w j : ℕ) → ((suc j ≡ w) × (nextOther w j ≡ suc (suc j))) ⊎ ((suc j ≢ w) × (nextOther w j ≡ suc j))

@@ -13,7 +13,7 @@ use Rattle.charts.specs.declared.Packet.{Packet}
 use Rattle.charts.specs.declared.Buffer.{Buffer}
 use Rattle.charts.specs.declared.Buffer.the-variants.{Empty, Full}
 use Rattle.charts.specs.declared.Move.{Move}
-use Rattle.charts.specs.declared.Move.the-variants.{Request, Arbitrate, Respond, Clock, Carry, Grant, GapNext, Reset}
+use Rattle.charts.specs.declared.Move.the-variants.{Request, Arbitrate, Respond, Clock, Carry, Grant, GapNext, Reset, Ask, Decide}
 use Rattle.charts.specs.State.{isEmpty}
 use Rattle.charts.specs.Step.{Event, refusal, accepted}
 use Rattle.charts.specs.Demand.{Note, told, gave, Run, none, run, Confirmed, Book, newBook, isRun, asks, wins, confirms, note, notes, holdsFor, moverOf, nodeOf, moves, reports, bookOf, one, asked, answered, requests, confirmations, size}
@@ -52,6 +52,8 @@ moves-adds mine (Carry v) b w = stays b w
 moves-adds mine Grant b w = stays b w
 moves-adds mine GapNext b w = stays b w
 moves-adds mine Reset b w = stays b w
+moves-adds mine (Ask i) b w = stays b w
+moves-adds mine (Decide i) b w = stays b w
 
 wins-adds : (f : Buffer) (b : Book) → b .waiting ≡ f → wins f b .wrong ≡ false → Adds b (wins f b) 0 0
 wins-adds Empty b e w = absurd (true≢false w)

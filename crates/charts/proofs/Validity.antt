@@ -1,7 +1,7 @@
 -- Number 12: a fresh bus is valid, every step keeps a state valid, so 12 never shows in a run from a fresh bus. And n never changes.
 use mathlib.Core.Path.{_≡_, refl, sym, ap, subst, _∙_}
 use mathlib.Core.Logic.{_≢_, ⊎-elim}
-use mathlib.Core.Bool.{Bool, true, false, _&&_, not}
+use mathlib.Core.Bool.{Bool, true, false, not}
 use mathlib.Core.List.{List, [], _∷_, List·Memᴰ, List·Memᴰ·cases-cons, List·Memᴰ·not-nil}
 use Prim.Native.Nat.{ℕ, suc, _<_, _≤_}
 use native.Mathlib.Omega.{arith}
@@ -9,7 +9,7 @@ use lib.Dec.{eqb, ltb}
 use lib.ListN.{getD}
 use borrow.Author.Tests.{eqb-true, eqb-false, ltb-true, not-true, lt-ltb, ne-eqb}
 use Rattle.charts.specs.declared.Mode.{Mode}
-use Rattle.charts.specs.declared.Mode.the-variants.{AckBody, Spurious}
+use Rattle.charts.specs.declared.Mode.the-variants.{Spurious}
 use Rattle.charts.specs.declared.Signal.{Signal}
 use Rattle.charts.specs.declared.Signal.the-variants.{Start, End, Prefix, Gap, Dhead, Dest, Header, Data, Ack}
 use Rattle.charts.specs.declared.Report.{Report}
@@ -85,7 +85,7 @@ bare p = not (mem p (P.ackGood ∷ P.bodyOwn ∷ P.bodyAll ∷ P.tailOwnGood ∷
 bare-fits : (m : Mode) → bare (placeOf m) ≡ true → modeFits m ≡ true
 unfolding modeFits
 bare-fits m e =
-    rw (mode-at m) (implied (bare (placeOf m)) _ (table-at test 24 tt (placeOf m) (place-lt m)) e)
+    rw (mode-at m) (implied (bare (placeOf m)) _ (table-at test 25 tt (placeOf m) (place-lt m)) e)
   where
     test : ℕ → Bool
     test p = implies (bare p) (modeFits (getD (modes (stepIn m) (ackIn m) (holdIn m) (headIn m) (datumIn m)) p Spurious))
@@ -237,8 +237,9 @@ module _ (s : State) (v : Valid s) where
   fit k l W.refuses = tt
   fit {i = i} k l (W.waits e b) = (v .phase-fits, record { mode-fits = was i l .mode-fits; buffer-fits = k .1; packet-fits = was i l .packet-fits })
   fit {i = i} k l (W.replies e) = (v .phase-fits, record { mode-fits = refl; buffer-fits = was i l .buffer-fits; packet-fits = k .1 })
-  fit {i = i} k l (W.wins q e b w) = (refl, record { mode-fits = refl; buffer-fits = refl; packet-fits = subst (λ b. bufferFits n b ≡ true) b (was i l .buffer-fits) })
-  fit {i = i} k l W.loses = (v .phase-fits, was i l)
+  fit {i = i} k l (W.claims e b) = (v .phase-fits, in-mode i l _ refl)
+  fit {i = i} k l (W.wins c q b w) = (refl, record { mode-fits = refl; buffer-fits = refl; packet-fits = subst (λ b. bufferFits n b ≡ true) b (was i l .buffer-fits) })
+  fit {i = i} k l (W.loses c) = (v .phase-fits, in-mode i l _ refl)
   fit {i = i} k l (W.gives e u) = (v .phase-fits, in-mode i l _ (k .1))
   fit {i = i} k l (W.puts {g = g} q h o x) =
       let y = puts-fit n x (was i l .mode-fits) (was i l .packet-fits) in (first-fits n i g (v .two) l (y .0), in-mode i l _ (y .1))
@@ -276,7 +277,7 @@ valid-kept s a e = go (stepped s a)
   where
     go : {r : Result} {w : Event} → Stepped s a r w → valid (r .state) ≡ true
     go (refused k) = e
-    go (acts {i} {r} {p} {c} {x} v k l w) = let f = fit s v k l w in valid-is (remarked x (moved s p i c)) (remarked-valid x (moved s p i c) (moved-valid s p i c v (f .0) (f .1)))
+    go (acts {i} {r} {p} {c} {x} v k l m w) = let f = fit s v k l w in valid-is (remarked x (moved s p i c)) (remarked-valid x (moved s p i c) (moved-valid s p i c v (f .0) (f .1)))
 
 -- a run from a fresh bus
 valid-after : (s : State) (l : List Action) → valid s ≡ true → valid (after s l) ≡ true

@@ -7,7 +7,7 @@ use lib.Dec.{eqb, ltb, leb}
 use borrow.Author.Tests.{eqb-true, eqb-false, ltb-true, ltb-false, not-true}
 use Rattle.charts.specs.declared.Head.{Head}
 use Rattle.charts.specs.declared.Mode.{Mode}
-use Rattle.charts.specs.declared.Mode.the-variants.{Rest, AwaitAck, AckBody, AckEnd, Opened, Addressed, HeadOwn, HeadAll, BodyOwn, BodyAll, TailOwn, TailAll, Wait, Owed, Sending, Told, Answering, Acking, Holding, Spurious, Listening}
+use Rattle.charts.specs.declared.Mode.the-variants.{Rest, AwaitAck, AckBody, AckEnd, Opened, Addressed, HeadOwn, HeadAll, BodyOwn, BodyAll, TailOwn, TailAll, Wait, Owed, Sending, Told, Answering, Acking, Holding, Spurious, Listening, Asked}
 use Rattle.charts.specs.declared.Signal.{Signal}
 use Rattle.charts.specs.declared.Signal.the-variants.{Start, End, Prefix, Gap, Dhead, Dest, Header, Data, Ack}
 use Rattle.charts.specs.declared.Report.{Report}
@@ -26,9 +26,9 @@ use Rattle.charts.specs.declared.Cell.{Cell}
 use Rattle.charts.specs.declared.Marking.{Marking}
 use Rattle.charts.specs.declared.Marking.the-variants as M
 use Rattle.charts.specs.declared.Move.{Move}
-use Rattle.charts.specs.declared.Move.the-variants.{Request, Arbitrate, Respond, Clock, Carry, Grant, GapNext, Reset}
+use Rattle.charts.specs.declared.Move.the-variants.{Request, Arbitrate, Respond, Clock, Carry, Grant, GapNext, Reset, Ask, Decide}
 use Rattle.charts.specs.Modes as P
-use Rattle.charts.specs.Modes.{placeOf, isRest, isHolding, isAnswering}
+use Rattle.charts.specs.Modes.{placeOf, isRest, isHolding, isAnswering, isAsked}
 use Rattle.charts.specs.Signals as S
 use Rattle.charts.specs.Signals.{everybody, kindOf}
 use Rattle.charts.specs.Reception.{hears}
@@ -39,9 +39,9 @@ use Rattle.charts.specs.Arrivals.{passed}
 use Rattle.charts.specs.State.{State, setMode, setPending, setMisled, wons, pendings, holders, some, others, lowest, isIdle, isBusy, isGranting, isEmpty}
 use Rattle.charts.specs.Actions as Actions
 use Rattle.charts.specs.Actions.{Outcome, closed, does, quietly, when, fills, mayAnswer, answers, firstOther, putsOut, markingBy, freed, afterFree, receives, hearing, delivers, takesGrant, afterGrant, takesGap, markingAtIdle, nextOf}
-use Rattle.charts.specs.Step.{about, comesTo}
-use Rattle.charts.proofs.Tools.{never, implies, and-true, or-no, pick-by}
-use Rattle.charts.proofs.Places.{mode-is, law}
+use Rattle.charts.specs.Step.{about, outcomeOf}
+use Rattle.charts.proofs.Tools.{never, implies, and-true, or-no, pick-by, mem}
+use Rattle.charts.proofs.Places.{mode-is, law, resting}
 
 -- what a holder puts out: its mode and packet, the signal, its next mode and its report
 pub data Puts (i : ℕ) (p : Packet) : Mode → Signal → Mode → Report → Type 0 where
@@ -89,14 +89,24 @@ gap-takes j c =
     (ap (λ b. c .pending || b) (not-true _ (law (λ y p k. implies (eqb k S.gap) (not (y .pends))) tt j _ (c .mode) Gap)) ∙ or-no (c .pending))
     (or-no (c .misled))
 
--- an action m about node i comes to o, in one of fifteen ways (or it is not open)
+-- node i contends for the bus: by kind 2 from Rest, by kind 12 from Asked
+pub data Contends (s : State) (i : ℕ) : Move → Type 0 where
+  at-once : placeOf (s .cell i .mode) ≡ P.rest → Contends s i (Arbitrate i)
+  asked : placeOf (s .cell i .mode) ≡ P.asked → Contends s i (Decide i)
+
+pub contends-rests : {s : State} {i : ℕ} {m : Move} → Contends s i m → mem (placeOf (s .cell i .mode)) resting ≡ true
+contends-rests (at-once e) = ap (λ p. mem p resting) e
+contends-rests (asked e) = ap (λ p. mem p resting) e
+
+-- an action m about node i comes to o, in one of sixteen ways (or it is not open)
 pub data Effect (s : State) : Move → ℕ → Outcome → Type 0 where
   refuses : {m : Move} {i : ℕ} → Effect s m i closed
   waits : {i : ℕ} {p : Packet} → placeOf (s .cell i .mode) ≡ P.rest → s .cell i .buffer ≡ Empty → Effect s (Request i p) i (quietly (s .phase) (fills p (s .cell i)))
   replies : {i : ℕ} {p : Packet} → s .cell i .mode ≡ Holding → Effect s (Request i p) i (quietly (s .phase) (Actions.replies p (s .cell i)))
-  wins : {i : ℕ} {p : Packet} → s .phase ≡ Idle → placeOf (s .cell i .mode) ≡ P.rest → s .cell i .buffer ≡ Full p → s .cell i .won ≡ false →
-      Effect s (Arbitrate i) i (does (R.Won i) Busy (Actions.wins p (s .cell i)) M.Nothing)
-  loses : {i : ℕ} → Effect s (Arbitrate i) i (does (R.Lost i) (s .phase) (s .cell i) M.Nothing)
+  claims : {i : ℕ} → placeOf (s .cell i .mode) ≡ P.rest → isEmpty (s .cell i .buffer) ≡ false → Effect s (Ask i) i (quietly (s .phase) (Actions.asks (s .cell i)))
+  wins : {m : Move} {i : ℕ} {p : Packet} → Contends s i m → s .phase ≡ Idle → s .cell i .buffer ≡ Full p → s .cell i .won ≡ false →
+      Effect s m i (does (R.Won i) Busy (Actions.wins p (s .cell i)) M.Nothing)
+  loses : {m : Move} {i : ℕ} → Contends s i m → Effect s m i (does (R.Lost i) (s .phase) (Actions.loses (s .cell i)) M.Nothing)
   gives : {i a : ℕ} {h : Bool} → s .cell i .mode ≡ Answering → mayAnswer (s .concatenated) h ≡ true → Effect s (Respond i a h) i (quietly (s .phase) (answers a h (s .cell i)))
   puts : {i : ℕ} {g : Signal} {m : Mode} {r : Report} → s .phase ≡ Busy → s .cell i .holder ≡ true → others (holders (s .cell)) i (s .n) ≡ false → Puts i (s .cell i .sending) (s .cell i .mode) g m r →
       Effect s (Clock i) i (does r (Delivering i g (firstOther i)) (putsOut g m (s .cell i)) (markingBy (s .cell i .mode) g))
@@ -151,11 +161,11 @@ module _ (s : State) where
       (λ e. let y = and-true (isRest (s .cell i .mode)) _ e in waits (eqb-true _ _ (y .0)) (is-empty (s .cell i .buffer) (y .1)))
       (λ e. when-effect _ _ (isHolding (s .cell i .mode)) _ λ z. replies (mode-is (s .cell i .mode) P.holding (eqb-true _ _ z)))
 
-  arbitrate : (i : ℕ) (b : Buffer) → s .cell i .buffer ≡ b → Effect s (Arbitrate i) i (Actions.arbitrateWith (s .phase) i (s .cell i) b)
-  arbitrate i Empty u = refuses
-  arbitrate i (Full p) u =
-      when-effect _ _ (isRest (s .cell i .mode)) _ λ z. pick-by (Effect s (Arbitrate i) i) (isIdle (s .phase) && not (s .cell i .won)) _ _
-      (λ e. let y = and-true (isIdle (s .phase)) _ e in wins (is-idle (s .phase) (y .0)) (eqb-true _ _ z) u (not-true _ (y .1))) (λ e. loses)
+  contend : (m : Move) (i : ℕ) → Contends s i m → (b : Buffer) → s .cell i .buffer ≡ b → Effect s m i (Actions.decided (s .phase) i (s .cell i) b)
+  contend m i c Empty u = refuses
+  contend m i c (Full p) u =
+      pick-by (Effect s m i) (isIdle (s .phase) && not (s .cell i .won)) _ _
+      (λ e. let y = and-true (isIdle (s .phase)) _ e in wins c (is-idle (s .phase) (y .0)) u (not-true _ (y .1))) (λ e. loses c)
 
   module _ (i : ℕ) (busy : s .phase ≡ Busy) where
     abbrev Clocks : Output → Type 0
@@ -209,6 +219,7 @@ module _ (s : State) where
     clocked Holding e = out _ _ _ _ e holds-on
     clocked Spurious e = when-effect _ _ (s .cell i .holder) _ λ o. frees busy o e
     clocked Listening e = refuses
+    clocked Asked e = refuses
 
   clock : (i : ℕ) → Effect s (Clock i) i (Actions.clock (s .n) (s .phase) i (s .cell i) (holders (s .cell)))
   unfolding Actions.clock
@@ -275,11 +286,16 @@ module _ (s : State) where
   unfolding Actions.reset
   reset = when-effect _ _ (isIdle (s .phase) && some (wons (s .cell)) (s .n)) _ λ e. resets (is-idle (s .phase) (and-true (isIdle (s .phase)) _ e .0))
 
+  ask : (i : ℕ) → Effect s (Ask i) i (Actions.ask (s .phase) (s .cell i))
+  unfolding Actions.ask
+  ask i = when-effect _ _ (isRest (s .cell i .mode) && not (isEmpty (s .cell i .buffer))) _ λ e.
+      let y = and-true (isRest (s .cell i .mode)) _ e in claims (eqb-true _ _ (y .0)) (not-true _ (y .1))
+
   -- every action acts in one of these ways
-  pub effect : (m : Move) → Effect s m (about s m) (comesTo s m)
-  unfolding Actions.outcome Actions.arbitrate Actions.respond
+  pub effect : (m : Move) → Effect s m (about s m) (outcomeOf s m)
+  unfolding Actions.outcome Actions.arbitrate Actions.respond Actions.decide
   effect (Request i p) = request i p
-  effect (Arbitrate i) = arbitrate i (s .cell i .buffer) refl
+  effect (Arbitrate i) = when-effect _ _ (isRest (s .cell i .mode)) _ λ e. contend (Arbitrate i) i (at-once (eqb-true _ _ e)) (s .cell i .buffer) refl
   effect (Respond i a h) = when-effect _ _ (isAnswering (s .cell i .mode) && mayAnswer (s .concatenated) h) _ λ e.
       let y = and-true (isAnswering (s .cell i .mode)) _ e in gives (mode-is (s .cell i .mode) P.answering (eqb-true _ _ (y .0))) (y .1)
   effect (Clock i) = clock i
@@ -287,3 +303,5 @@ module _ (s : State) where
   effect Grant = grant (lowest (pendings (s .cell)) (s .n) 0) refl
   effect GapNext = gap (s .phase) refl
   effect Reset = reset
+  effect (Ask i) = ask i
+  effect (Decide i) = when-effect _ _ (isAsked (s .cell i .mode)) _ λ e. contend (Decide i) i (asked (eqb-true _ _ e)) (s .cell i .buffer) refl

@@ -1,11 +1,11 @@
--- "Bus and actions": what each of the ten kinds of action does. An action is about one node i: it makes a report, the bus goes to a phase, and that node's cell changes;
+-- "Bus and actions": what each of the twelve kinds of action does. An action is about one node i: it makes a report, the bus goes to a phase, and that node's cell changes;
 -- beyond that a Start clears the misled marks, a reset the won marks, and the bus's own mark is set by the Prefix that closes an acknowledgement and cleared where the bus becomes Idle.
 -- So each action is a function of the few values that it looks at. Where a node gets a signal, what it does with it is the function h: the chart `hears`, which a table may stand for.
 use mathlib.Core.Bool.{Bool, true, false, cond, _&&_, _||_, not}
 use Prim.Native.Nat.{ℕ, suc}
 use lib.Dec.{eqb, ltb}
 use Rattle.charts.specs.declared.Mode.{Mode}
-use Rattle.charts.specs.declared.Mode.the-variants.{Rest, Sending, Answering, Acking, Spurious}
+use Rattle.charts.specs.declared.Mode.the-variants.{Rest, Sending, Answering, Acking, Spurious, Asked}
 use Rattle.charts.specs.declared.Signal.{Signal}
 use Rattle.charts.specs.declared.Signal.the-variants.{Gap}
 use Rattle.charts.specs.declared.Report.{Report}
@@ -25,8 +25,8 @@ use Rattle.charts.specs.declared.Arrival.the-variants as A
 use Rattle.charts.specs.declared.Marking.{Marking}
 use Rattle.charts.specs.declared.Marking.the-variants as M
 use Rattle.charts.specs.declared.Move.{Move}
-use Rattle.charts.specs.declared.Move.the-variants.{Request, Arbitrate, Respond, Clock, Carry, Grant, GapNext, Reset}
-use Rattle.charts.specs.Modes.{isRest, isHolding, isAnswering, isAcking, isTold, isOwed}
+use Rattle.charts.specs.declared.Move.the-variants.{Request, Arbitrate, Respond, Clock, Carry, Grant, GapNext, Reset, Ask, Decide}
+use Rattle.charts.specs.Modes.{isRest, isHolding, isAnswering, isAcking, isTold, isOwed, isAsked}
 use Rattle.charts.specs.Signals.{isStart, isEnd, isPrefix}
 use Rattle.charts.specs.Reception.{Reception}
 use Rattle.charts.specs.Outputs.{output}
@@ -62,19 +62,22 @@ request ph c p =
     (when (isHolding (c .mode)) (quietly ph (replies p c)))
 
 -- 2. arbitrate: "in Rest, buffer full. Bus Idle and not marked won: report won, mark won and holder, bus Busy, packet leaves the buffer, → Sending.
--- Otherwise report lost; nothing changes"
+-- Otherwise report lost; nothing changes". (12: "a loser returns to Rest"; a loser of kind 2 is there already: proofs/Asking.antt, lost-stays)
 abbrev pub wins : Packet → Cell → Cell
 wins p c = setBuffer Empty (setWon true (setHolder true (starts p c)))
 
-abbrev pub arbitrateWith : Phase → ℕ → Cell → Buffer → Outcome
-arbitrateWith ph i c Empty = closed
-arbitrateWith ph i c (Full p) =
-    when (isRest (c .mode)) (cond (isIdle ph && not (c .won))
+abbrev pub loses : Cell → Cell
+loses c = setMode Rest c
+
+abbrev pub decided : Phase → ℕ → Cell → Buffer → Outcome
+decided ph i c Empty = closed
+decided ph i c (Full p) =
+    cond (isIdle ph && not (c .won))
     (does (R.Won i) Busy (wins p c) M.Nothing)
-    (does (R.Lost i) ph c M.Nothing))
+    (does (R.Lost i) ph (loses c) M.Nothing)
 
 unfoldable pub arbitrate : Phase → ℕ → Cell → Outcome
-arbitrate ph i c = arbitrateWith ph i c (c .buffer)
+arbitrate ph i c = when (isRest (c .mode)) (decided ph i c (c .buffer))
 
 -- 3. respond: "in Answering → Acking"
 abbrev pub answers : ℕ → Bool → Cell → Cell
@@ -191,6 +194,34 @@ gap h n (Gapping j) c = cond (ltb (suc j) n) (gapsTo h (Gapping (suc j)) M.Nothi
 unfoldable pub reset : ℕ → Phase → Cell → (ℕ → Bool) → Outcome
 reset n ph c ws = when (isIdle ph && some ws n) (does R.Silent ph c M.Won)
 
+-- 11. ask: "in Rest with a full buffer → Asked, the listings' Link1; any bus"
+abbrev pub asks : Cell → Cell
+asks c = setMode Asked c
+
+unfoldable pub ask : Phase → Cell → Outcome
+ask ph c = when (isRest (c .mode) && not (isEmpty (c .buffer))) (quietly ph (asks c))
+
+-- 12. decide: "an Asked node with a full buffer is decided as kind 2 decides, won or lost; a loser returns to Rest"
+unfoldable pub decide : Phase → ℕ → Cell → Outcome
+decide ph i c = when (isAsked (c .mode)) (decided ph i c (c .buffer))
+
+-- kinds 4 to 10, which wait until every node that asked is decided
+abbrev pub waitsForAsked : Move → Bool
+waitsForAsked (Request i p) = false
+waitsForAsked (Arbitrate i) = false
+waitsForAsked (Respond i a hold) = false
+waitsForAsked (Clock i) = true
+waitsForAsked (Carry w) = true
+waitsForAsked Grant = true
+waitsForAsked GapNext = true
+waitsForAsked Reset = true
+waitsForAsked (Ask i) = false
+waitsForAsked (Decide i) = false
+
+-- "While a node is Asked, kinds 4 to 10 are not open." Whether an action may be, where q says that a node is Asked
+abbrev pub mayBeOpen : Bool → Move → Bool
+mayBeOpen q m = not (waitsForAsked m && q)
+
 -- the node that an action is about: the one that it names; the next receiver; the lowest pending node; the next node to get Gap. (A reset is about none: node 0's cell stays.)
 abbrev pub nextOf : Phase → ℕ
 nextOf Idle = 0
@@ -208,6 +239,8 @@ target n ph ps (Carry w) = nextOf ph
 target n ph ps Grant = lowest ps n 0
 target n ph ps GapNext = nextOf ph
 target n ph ps Reset = 0
+target n ph ps (Ask i) = i
+target n ph ps (Decide i) = i
 
 -- the outcome of an action about node i, whose cell is c; b is the bus's own mark, ws, ps and hs are the won, pending and holder marks of all nodes
 unfoldable pub outcome : Reception → ℕ → Phase → Bool → ℕ → Cell → (ℕ → Bool) → (ℕ → Bool) → (ℕ → Bool) → Move → Outcome
@@ -219,3 +252,5 @@ outcome h n ph b i c ws ps hs (Carry w) = carry h n ph c ps w
 outcome h n ph b i c ws ps hs Grant = grant n ph i c ps
 outcome h n ph b i c ws ps hs GapNext = gap h n ph c
 outcome h n ph b i c ws ps hs Reset = reset n ph c ws
+outcome h n ph b i c ws ps hs (Ask j) = ask ph c
+outcome h n ph b i c ws ps hs (Decide j) = decide ph i c

@@ -6,14 +6,14 @@ use mathlib.Core.List.{List, [], _∷_}
 use Prim.Native.Nat.{ℕ, _<_, _+_, _*_}
 use lib.Dec.{eqb}
 use lib.ListN.{length}
-use Rattle.charts.specs.declared.Mode.the-variants.{Rest}
+use Rattle.charts.specs.declared.Mode.the-variants.{Rest, Asked}
 use Rattle.charts.specs.declared.Report.{Report}
 use Rattle.charts.specs.declared.Report.the-variants.{Silent, Won, Lost, Sent, Acked, Miss, Drop, Good, Dcrc, Broad}
 use Rattle.charts.specs.declared.Packet.{Packet}
 use Rattle.charts.specs.declared.Buffer.{Buffer}
 use Rattle.charts.specs.declared.Buffer.the-variants.{Empty, Full}
 use Rattle.charts.specs.declared.Move.{Move}
-use Rattle.charts.specs.declared.Move.the-variants.{Request, Arbitrate, Respond, Clock, Carry, Grant, GapNext, Reset}
+use Rattle.charts.specs.declared.Move.the-variants.{Request, Arbitrate, Respond, Clock, Carry, Grant, GapNext, Reset, Ask, Decide}
 use Rattle.charts.specs.declared.Action.{Action}
 use Rattle.charts.specs.Modes.{isAnswering, isHolding}
 use Rattle.charts.specs.State.{State, isIdle, isEmpty, fresh}
@@ -89,6 +89,8 @@ moverOf (Carry w) = 0
 moverOf Grant = 0
 moverOf GapNext = 0
 moverOf Reset = 0
+moverOf (Ask i) = i
+moverOf (Decide i) = i
 
 abbrev pub nodeOf : Report → ℕ
 nodeOf Silent = 0
@@ -113,6 +115,8 @@ moves mine (Carry w) b = b
 moves mine Grant b = b
 moves mine GapNext b = b
 moves mine Reset b = b
+moves mine (Ask i) b = b
+moves mine (Decide i) b = b
 
 abbrev pub reports : Bool → Report → Book → Book
 reports mine Silent b = b
@@ -151,6 +155,8 @@ asked mine (Carry w) = 0
 asked mine Grant = 0
 asked mine GapNext = 0
 asked mine Reset = 0
+asked mine (Ask i) = 0
+asked mine (Decide i) = 0
 
 abbrev pub answered : Bool → Report → ℕ
 answered mine Silent = 0
@@ -205,7 +211,8 @@ abbrev pub AllHonest : List Confirmed → Type 0
 AllHonest [] = Unit {0}
 AllHonest (c ∷ l) = (Honest (c .packet) (c .stretch) (c .by)) × (AllHonest l)
 
--- 4. FORWARD ACTIONS. "A forward action is an accepted one that is not kind 2, not 10, not a kind 1 into a buffer, not a filler clock" (Answering's and Holding's)
+-- 4. FORWARD ACTIONS. "A forward action is an accepted one that is not kind 2, not 10, not a kind 1 into a buffer, not a filler clock" (Answering's and Holding's); "Kind 11 is no
+-- forward action and kind 12 is one"
 abbrev pub forward : State → Move → Bool
 forward s (Request i p) = isHolding (s .cell i .mode)
 forward s (Arbitrate i) = false
@@ -215,6 +222,8 @@ forward s (Carry w) = true
 forward s Grant = true
 forward s GapNext = true
 forward s Reset = false
+forward s (Ask i) = false
+forward s (Decide i) = true
 
 -- "Open: it would be accepted as the next action."
 abbrev pub isOpen : State → Action → Bool
@@ -237,9 +246,9 @@ abbrev pub meetsIdle : State → List Action → Bool
 meetsIdle s [] = isIdle (s .phase)
 meetsIdle s (a ∷ l) = isIdle (s .phase) || meetsIdle (step s a .state) l
 
--- "it is idle after at most 21n + 2"
+-- "it is idle after at most 21n + 2", and "n is added to the bound" (request 6)
 abbrev pub bound : ℕ → ℕ
-bound n = 21 * n + 2
+bound n = 22 * n + 2
 
 -- 5. THE CLAIM about a list of action records, played from the fresh bus of n nodes: the state that it leaves, its events, and the book of node i
 abbrev pub final : ℕ → List Action → State
@@ -263,9 +272,9 @@ pub record Demand3 (n : ℕ) (l : List Action) : Type 0 where
   pub honest : (i : ℕ) → i < n → AllHonest (book n l i .confirmed)
   -- "If the bus is not idle, some forward action is open"
   pub opens : isIdle (final n l .phase) ≡ false → (a : Action) × (isForward (final n l) a ≡ true)
-  -- "and however these are chosen, one after the other, it is idle after at most 21n + 2"
+  -- "and however these are chosen, one after the other, it is idle after at most 21n + 2", to which n is added
   pub ends : (c : List Action) → allForward (final n l) c ≡ true → acceptedOf (final n l) c ≡ bound n → meetsIdle (final n l) c ≡ true
-  -- "If it is idle, every node rests"
-  pub rests : isIdle (final n l .phase) ≡ true → (i : ℕ) → i < n → final n l .cell i .mode ≡ Rest
+  -- "If it is idle, every node rests": "an Idle bus may have nodes in Rest or Asked"
+  pub rests : isIdle (final n l .phase) ≡ true → (i : ℕ) → i < n → (final n l .cell i .mode ≡ Rest) ⊎ (final n l .cell i .mode ≡ Asked)
   -- "and each accepted request has had exactly one confirmation or still waits in its buffer with none": none is started and unconfirmed
   pub settled : isIdle (final n l .phase) ≡ true → (i : ℕ) → i < n → book n l i .running ≡ none

@@ -17,3 +17,4 @@ pub mod View
 pub mod Demand
 pub mod Stretch
 pub mod Replies
+pub mod Asking

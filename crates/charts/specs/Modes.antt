@@ -6,7 +6,7 @@ use lib.Dec.{eqb}
 use Rattle.charts.specs.declared.Seen.the-variants as Sn
 use Rattle.charts.specs.declared.Datum.the-variants as D
 use Rattle.charts.specs.declared.Mode.{Mode}
-use Rattle.charts.specs.declared.Mode.the-variants.{Rest, AwaitAck, AckBody, AckEnd, Opened, Addressed, HeadOwn, HeadAll, BodyOwn, BodyAll, TailOwn, TailAll, Wait, Owed, Sending, Told, Answering, Acking, Holding, Spurious, Listening}
+use Rattle.charts.specs.declared.Mode.the-variants.{Rest, AwaitAck, AckBody, AckEnd, Opened, Addressed, HeadOwn, HeadAll, BodyOwn, BodyAll, TailOwn, TailAll, Wait, Owed, Sending, Told, Answering, Acking, Holding, Spurious, Listening, Asked}
 use Rattle.charts.specs.declared.Reading.{Reading}
 use Rattle.charts.specs.declared.Reading.the-variants as Rd
 
@@ -82,6 +82,9 @@ spurious = 22
 abbrev pub listening : ℕ
 listening = 23
 
+abbrev pub asked : ℕ
+asked = 24
+
 abbrev pub placeOf : Mode → ℕ
 placeOf Rest = rest
 placeOf AwaitAck = awaitAck
@@ -107,6 +110,7 @@ placeOf (Acking k a b) = acking
 placeOf Holding = holding
 placeOf Spurious = spurious
 placeOf Listening = listening
+placeOf Asked = asked
 
 -- request 4: "the name of the mode it left", for the places from Opened to TailAll; it says nothing of good or bad data
 unfoldable pub nameAt : ℕ → Reading
@@ -137,3 +141,6 @@ isAcking m = eqb (placeOf m) acking
 
 abbrev pub isHolding : Mode → Bool
 isHolding m = eqb (placeOf m) holding
+
+abbrev pub isAsked : Mode → Bool
+isAsked m = eqb (placeOf m) asked

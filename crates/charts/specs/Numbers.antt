@@ -9,7 +9,7 @@ accepted = 0
 abbrev pub wrong-size : ℕ
 wrong-size = 1
 
--- 2: kind not 1–10
+-- 2: kind not 1–12
 abbrev pub wrong-kind : ℕ
 wrong-kind = 2
 

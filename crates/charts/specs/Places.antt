@@ -9,7 +9,7 @@ use Rattle.charts.specs.declared.Seen.the-variants as Sn
 use Rattle.charts.specs.declared.Datum.{Datum}
 use Rattle.charts.specs.declared.Datum.the-variants as D
 use Rattle.charts.specs.declared.Mode.{Mode}
-use Rattle.charts.specs.declared.Mode.the-variants.{Rest, AwaitAck, AckBody, AckEnd, Opened, Addressed, HeadOwn, HeadAll, BodyOwn, BodyAll, TailOwn, TailAll, Wait, Owed, Sending, Told, Answering, Acking, Holding, Spurious, Listening}
+use Rattle.charts.specs.declared.Mode.the-variants.{Rest, AwaitAck, AckBody, AckEnd, Opened, Addressed, HeadOwn, HeadAll, BodyOwn, BodyAll, TailOwn, TailAll, Wait, Owed, Sending, Told, Answering, Acking, Holding, Spurious, Listening, Asked}
 use Rattle.charts.specs.Signals.{noHead}
 
 -- the acknowledgement of a good Ack, and the datum of good data; else 0
@@ -44,6 +44,7 @@ stepIn (Acking k a b) = k
 stepIn Holding = 0
 stepIn Spurious = 0
 stepIn Listening = 0
+stepIn Asked = 0
 
 abbrev pub ackIn : Mode → ℕ
 ackIn Rest = 0
@@ -67,6 +68,7 @@ ackIn (Acking k a b) = a
 ackIn Holding = 0
 ackIn Spurious = 0
 ackIn Listening = 0
+ackIn Asked = 0
 
 abbrev pub holdIn : Mode → Bool
 holdIn Rest = false
@@ -90,6 +92,7 @@ holdIn (Acking k a b) = b
 holdIn Holding = false
 holdIn Spurious = false
 holdIn Listening = false
+holdIn Asked = false
 
 abbrev pub headIn : Mode → Head
 headIn Rest = noHead
@@ -113,6 +116,7 @@ headIn (Acking k a b) = noHead
 headIn Holding = noHead
 headIn Spurious = noHead
 headIn Listening = noHead
+headIn Asked = noHead
 
 abbrev pub datumIn : Mode → ℕ
 datumIn Rest = 0
@@ -136,8 +140,9 @@ datumIn (Acking k a b) = 0
 datumIn Holding = 0
 datumIn Spurious = 0
 datumIn Listening = 0
+datumIn Asked = 0
 
 -- the modes by their places
 abbrev pub modes : ℕ → ℕ → Bool → Head → ℕ → List Mode
 modes k a b h d =
-    Rest ∷ AwaitAck ∷ AckBody ∷ (AckEnd (Sn.Ack a)) ∷ (AckEnd Sn.Nothing) ∷ Opened ∷ Addressed ∷ HeadOwn ∷ HeadAll ∷ (BodyOwn h) ∷ (BodyAll h) ∷ (TailOwn h (D.Good d)) ∷ (TailOwn h D.Bad) ∷ (TailAll h (D.Good d)) ∷ (TailAll h D.Bad) ∷ Wait ∷ Owed ∷ (Sending k) ∷ Told ∷ Answering ∷ (Acking k a b) ∷ Holding ∷ Spurious ∷ Listening ∷ []
+    Rest ∷ AwaitAck ∷ AckBody ∷ (AckEnd (Sn.Ack a)) ∷ (AckEnd Sn.Nothing) ∷ Opened ∷ Addressed ∷ HeadOwn ∷ HeadAll ∷ (BodyOwn h) ∷ (BodyAll h) ∷ (TailOwn h (D.Good d)) ∷ (TailOwn h D.Bad) ∷ (TailAll h (D.Good d)) ∷ (TailAll h D.Bad) ∷ Wait ∷ Owed ∷ (Sending k) ∷ Told ∷ Answering ∷ (Acking k a b) ∷ Holding ∷ Spurious ∷ Listening ∷ Asked ∷ []

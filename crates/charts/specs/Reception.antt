@@ -1,4 +1,4 @@
--- "What a node does with a signal": the reception chart, 24 modes (AckEnd, TailOwn and TailAll count as two each) by 14 classes of signals.
+-- "What a node does with a signal": the reception chart, 25 modes (AckEnd, TailOwn and TailAll count as two each) by 14 classes of signals.
 use mathlib.Core.Bool.{true, false, cond}
 use Prim.Native.Nat.{ℕ}
 use lib.Dec.{eqb}
@@ -7,7 +7,7 @@ use Rattle.charts.specs.declared.Seen.the-variants as Sn
 use Rattle.charts.specs.declared.Datum.{Datum}
 use Rattle.charts.specs.declared.Datum.the-variants as D
 use Rattle.charts.specs.declared.Mode.{Mode}
-use Rattle.charts.specs.declared.Mode.the-variants.{Rest, AwaitAck, AckBody, AckEnd, Opened, Addressed, HeadOwn, HeadAll, BodyOwn, BodyAll, TailOwn, TailAll, Wait, Owed, Sending, Told, Answering, Acking, Holding, Spurious, Listening}
+use Rattle.charts.specs.declared.Mode.the-variants.{Rest, AwaitAck, AckBody, AckEnd, Opened, Addressed, HeadOwn, HeadAll, BodyOwn, BodyAll, TailOwn, TailAll, Wait, Owed, Sending, Told, Answering, Acking, Holding, Spurious, Listening, Asked}
 use Rattle.charts.specs.declared.Reading.the-variants as Rd
 use Rattle.charts.specs.declared.Signal.{Signal}
 use Rattle.charts.specs.declared.Signal.the-variants.{Ack}
@@ -78,13 +78,14 @@ answer me label (TailAll h d) c s = cond (closes c) (tells Rest (broadOf me h d)
 answer me label Wait c s = falls Silent Silent c
 -- Owed (WSA with a grant to come) stays
 answer me label Owed c s = goes Owed
--- Sending (2), Told (4DRec), Answering (5), Acking (6), Holding (7), Spurious stay on every signal
+-- Sending (2), Told (4DRec), Answering (5), Acking (6), Holding (7), Spurious and Asked (1) stay on every signal
 answer me label (Sending k) c s = goes (Sending k)
 answer me label Told c s = goes Told
 answer me label Answering c s = goes Answering
 answer me label (Acking k a b) c s = goes (Acking k a b)
 answer me label Holding c s = goes Holding
 answer me label Spurious c s = goes Spurious
+answer me label Asked c s = goes Asked
 -- Listening (request 1): "Start → Opened, Prefix stay, Gap → Rest, else Wait"
 answer me label Listening c s = cond (eqb c S.start) (goes Opened) (cond (eqb c S.prefix) (goes Listening) (falls Silent Silent c))
 

@@ -5,20 +5,20 @@ use lib.Dec.{eqb, ltb}
 use Rattle.charts.specs.declared.Packet.{Packet}
 use Rattle.charts.specs.declared.Way.the-variants.{Pass, Lose, Change}
 use Rattle.charts.specs.declared.Move.{Move}
-use Rattle.charts.specs.declared.Move.the-variants.{Request, Arbitrate, Respond, Clock, Carry, Grant, GapNext, Reset}
+use Rattle.charts.specs.declared.Move.the-variants.{Request, Arbitrate, Respond, Clock, Carry, Grant, GapNext, Reset, Ask, Decide}
 use Rattle.charts.specs.declared.Action.{Action}
 use Rattle.charts.specs.declared.Decoded.{Decoded}
 use Rattle.charts.specs.declared.Decoded.the-variants.{Refused, Accepted}
 use Rattle.charts.specs.Numbers as N
 use Rattle.charts.specs.Signals.{everybody}
 
--- "kind not 1–10" is refused
+-- "kind not 1–12" is refused
 abbrev pub isKind : ℕ → Bool
-isKind k = ltb 0 k && ltb k 11
+isKind k = ltb 0 k && ltb k 13
 
--- the fields that each kind names: node (1 to 4), address (1, 7), acknowledgement and hold (3), label, header and data (1)
+-- the fields that each kind names: node (1 to 4, 11, 12), address (1, 7), acknowledgement and hold (3), label, header and data (1)
 abbrev pub namesNode : ℕ → Bool
-namesNode k = ltb k 5
+namesNode k = ltb k 5 || ltb 10 k
 
 abbrev pub namesAddress : ℕ → Bool
 namesAddress k = eqb k 1 || eqb k 7
@@ -61,7 +61,9 @@ moveOf a =
     (cond (eqb (a .kind) 7) (Carry (Change (a .address)))
     (cond (eqb (a .kind) 8) Grant
     (cond (eqb (a .kind) 9) GapNext
-    Reset))))))))
+    (cond (eqb (a .kind) 10) Reset
+    (cond (eqb (a .kind) 11) (Ask (a .node))
+    (Decide (a .node))))))))))))
 
 -- the conditions of 4, 5, 13 and 6: "node not below n"; "address neither below n nor 63"; "label over 63"; "acknowledgement over 15 or hold over 1"
 abbrev pub badNode : ℕ → Action → Bool

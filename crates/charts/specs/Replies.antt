@@ -6,7 +6,7 @@ use mathlib.Core.List.{List, [], _∷_}
 use Prim.Native.Nat.{ℕ, _<_, _≤_, _+_}
 use Rattle.charts.specs.declared.Mode.the-variants.{Acking}
 use Rattle.charts.specs.declared.Move.{Move}
-use Rattle.charts.specs.declared.Move.the-variants.{Request, Arbitrate, Respond, Clock, Carry, Grant, GapNext, Reset}
+use Rattle.charts.specs.declared.Move.the-variants.{Request, Arbitrate, Respond, Clock, Carry, Grant, GapNext, Reset, Ask, Decide}
 use Rattle.charts.specs.declared.Action.{Action}
 use Rattle.charts.specs.Modes.{isHolding}
 use Rattle.charts.specs.State.{State, isIdle}
@@ -24,6 +24,8 @@ isReply s (Carry w) = false
 isReply s Grant = false
 isReply s GapNext = false
 isReply s Reset = false
+isReply s (Ask i) = false
+isReply s (Decide i) = false
 
 -- how many replies are accepted in a continuation
 abbrev pub repliesIn : State → List Action → ℕ

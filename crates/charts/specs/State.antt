@@ -13,6 +13,7 @@ use Rattle.charts.specs.declared.Cell.{Cell}
 use Rattle.charts.specs.declared.Marking.{Marking}
 use Rattle.charts.specs.declared.Marking.the-variants as M
 use Rattle.charts.specs.Signals.{noHead}
+use Rattle.charts.specs.Modes.{isAsked}
 
 -- "The bus is Idle, Busy, Delivering (sender, signal, next receiver), Granting or Gapping (next node). It keeps four marks for each node: won, pending, holder, misled."
 -- "The bus keeps one more mark" (request 1): an acknowledgement was closed by a Prefix, and what its sender puts out next is concatenated to it
@@ -53,6 +54,10 @@ pendings f k = f k .pending
 
 abbrev pub holders : (ℕ → Cell) → ℕ → Bool
 holders f k = f k .holder
+
+-- the nodes that are Asked
+abbrev pub askers : (ℕ → Cell) → ℕ → Bool
+askers f k = isAsked (f k .mode)
 
 -- f with another value at i
 abbrev pub upd : {A : Type 0} → (ℕ → A) → ℕ → A → ℕ → A

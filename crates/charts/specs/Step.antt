@@ -11,8 +11,8 @@ use Rattle.charts.specs.declared.Decoded.{Decoded}
 use Rattle.charts.specs.declared.Decoded.the-variants.{Refused, Accepted}
 use Rattle.charts.specs.Numbers as N
 use Rattle.charts.specs.Reception.{hears}
-use Rattle.charts.specs.State.{State, wons, pendings, holders, moved, remarked, fresh}
-use Rattle.charts.specs.Actions.{Outcome, closed, does, target, outcome}
+use Rattle.charts.specs.State.{State, wons, pendings, holders, askers, some, moved, remarked, fresh}
+use Rattle.charts.specs.Actions.{Outcome, closed, does, when, mayBeOpen, target, outcome}
 use Rattle.charts.specs.Records.{moveOf, read}
 use Rattle.charts.specs.Valid.{isSize, valid}
 
@@ -35,8 +35,18 @@ carryOut s i (does r p c x) = record { number = N.accepted; report = r; state = 
 abbrev pub about : State → Move → ℕ
 about s m = target (s .n) (s .phase) (pendings (s .cell)) m
 
+abbrev pub outcomeOf : State → Move → Outcome
+outcomeOf s m = outcome hears (s .n) (s .phase) (s .concatenated) (about s m) (s .cell (about s m)) (wons (s .cell)) (pendings (s .cell)) (holders (s .cell)) m
+
+-- some node of the bus is Asked
+abbrev pub someAsked : State → Bool
+someAsked s = some (askers (s .cell)) (s .n)
+
+abbrev pub mayAct : State → Move → Bool
+mayAct s m = mayBeOpen (someAsked s) m
+
 abbrev pub comesTo : State → Move → Outcome
-comesTo s m = outcome hears (s .n) (s .phase) (s .concatenated) (about s m) (s .cell (about s m)) (wons (s .cell)) (pendings (s .cell)) (holders (s .cell)) m
+comesTo s m = when (mayAct s m) (outcomeOf s m)
 
 unfoldable pub play : State → Move → Result
 play s m = carryOut s (about s m) (comesTo s m)

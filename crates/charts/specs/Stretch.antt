@@ -8,7 +8,7 @@ use Rattle.charts.specs.declared.Report.{Report}
 use Rattle.charts.specs.declared.Report.the-variants.{Silent, Won, Lost, Sent, Acked, Miss, Drop, Good, Dcrc, Broad}
 use Rattle.charts.specs.declared.Packet.{Packet}
 use Rattle.charts.specs.declared.Move.{Move}
-use Rattle.charts.specs.declared.Move.the-variants.{Request, Arbitrate, Respond, Clock, Carry, Grant, GapNext, Reset}
+use Rattle.charts.specs.declared.Move.the-variants.{Request, Arbitrate, Respond, Clock, Carry, Grant, GapNext, Reset, Ask, Decide}
 use Rattle.charts.specs.declared.Action.{Action}
 use Rattle.charts.specs.Step.{Event, refusal, accepted}
 use Rattle.charts.specs.Demand.{history}
@@ -23,6 +23,8 @@ heldBy i (Carry w) h = h
 heldBy i Grant h = h
 heldBy i GapNext h = h
 heldBy i Reset h = h
+heldBy i (Ask j) h = h
+heldBy i (Decide j) h = h
 
 abbrev pub heldFrom : ℕ → Bool → List Event → Bool
 heldFrom i h [] = h
@@ -42,6 +44,8 @@ requestOf i (Carry w) = false
 requestOf i Grant = false
 requestOf i GapNext = false
 requestOf i Reset = false
+requestOf i (Ask j) = false
+requestOf i (Decide j) = false
 
 abbrev pub wonOf : ℕ → Report → Bool
 wonOf i Silent = false
@@ -113,6 +117,8 @@ givesNone (Carry w) = true
 givesNone Grant = true
 givesNone GapNext = true
 givesNone Reset = true
+givesNone (Ask i) = true
+givesNone (Decide i) = true
 
 abbrev pub quiet : List Event → Bool
 quiet [] = true

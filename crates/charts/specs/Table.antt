@@ -1,4 +1,4 @@
--- Request 2: the reception chart as one table, 24 modes by 14 classes. "Each cell names the next mode, the report and whether a pending mark is made."
+-- Request 2: the reception chart as one table, 25 modes by 14 classes. "Each cell names the next mode, the report and whether a pending mark is made."
 use mathlib.Core.Bool.{false}
 use Prim.Native.Nat.{ℕ}
 use lib.ListN.{getD}
@@ -17,7 +17,7 @@ use Rattle.charts.specs.Reception.{answer}
 abbrev pub entryOf : Heard → Entry
 entryOf x = record { place = placeOf (x .mode); word = wordOf (x .report); pends = x .pends }
 
--- a mode at each place; past the table's 24 it is Spurious, which stays
+-- a mode at each place; past the table's 25 it is Spurious, which stays
 abbrev pub modeAt : ℕ → Mode
 modeAt p = getD (modes 0 0 false noHead 0) p Spurious
 

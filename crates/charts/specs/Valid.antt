@@ -5,7 +5,7 @@ use lib.Dec.{eqb, ltb}
 use Rattle.charts.specs.declared.Seen.{Seen}
 use Rattle.charts.specs.declared.Seen.the-variants as Sn
 use Rattle.charts.specs.declared.Mode.{Mode}
-use Rattle.charts.specs.declared.Mode.the-variants.{Rest, AwaitAck, AckBody, AckEnd, Opened, Addressed, HeadOwn, HeadAll, BodyOwn, BodyAll, TailOwn, TailAll, Wait, Owed, Sending, Told, Answering, Acking, Holding, Spurious, Listening}
+use Rattle.charts.specs.declared.Mode.the-variants.{Rest, AwaitAck, AckBody, AckEnd, Opened, Addressed, HeadOwn, HeadAll, BodyOwn, BodyAll, TailOwn, TailAll, Wait, Owed, Sending, Told, Answering, Acking, Holding, Spurious, Listening, Asked}
 use Rattle.charts.specs.declared.Signal.{Signal}
 use Rattle.charts.specs.declared.Signal.the-variants.{Start, End, Prefix, Gap, Dhead, Dest, Header, Data, Ack}
 use Rattle.charts.specs.declared.Packet.{Packet}
@@ -52,6 +52,7 @@ modeFits (Acking k a hold) = ltb k 3 && isAck a
 modeFits Holding = true
 modeFits Spurious = true
 modeFits Listening = true
+modeFits Asked = true
 
 -- "an address neither below n nor 63": that of the packet in a full buffer, of the packet being sent, and of the Dest under way
 abbrev pub packetFits : ℕ → Packet → Bool

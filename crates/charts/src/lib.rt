@@ -51,6 +51,7 @@ pub enum Mode {
     Holding,
     Spurious,
     Listening,
+    Asked,
 }
 
 // The modes in which a node reads a packet, by name: a drop names the one that the node left.
@@ -211,6 +212,8 @@ pub enum Move {
     Grant,
     GapNext,
     Reset,
+    Ask(u8),
+    Decide(u8),
 }
 
 // An action record looked at: the action, or the number of its refusal.

@@ -5,7 +5,7 @@ import sys
 
 MODES = [("Rest", ""), ("AwaitAck", ""), ("AckBody", ""), ("AckEnd", "(Sn.Ack a)"), ("AckEnd", "Sn.Nothing"), ("Opened", ""), ("Addressed", ""), ("HeadOwn", ""),
          ("HeadAll", ""), ("BodyOwn", "h"), ("BodyAll", "h"), ("TailOwn", "h (D.Good d)"), ("TailOwn", "h D.Bad"), ("TailAll", "h (D.Good d)"), ("TailAll", "h D.Bad"),
-         ("Wait", ""), ("Owed", ""), ("Sending", "k"), ("Told", ""), ("Answering", ""), ("Acking", "k a b"), ("Holding", ""), ("Spurious", ""), ("Listening", "")]
+         ("Wait", ""), ("Owed", ""), ("Sending", "k"), ("Told", ""), ("Answering", ""), ("Acking", "k a b"), ("Holding", ""), ("Spurious", ""), ("Listening", ""), ("Asked", "")]
 # AckEnd, TailOwn and TailAll count as two: what the second part of the mode has, where the letter stands in it
 WHOLE = {"AckEnd": "x", "TailOwn": "h x", "TailAll": "h x"}
 PART = {"a": "goodAck x", "d": "goodDatum x"}
@@ -44,7 +44,7 @@ def specs():
 def proofs():
     print("pub mode-at : (m : Mode) → m ≡ getD (modes (stepIn m) (ackIn m) (holdIn m) (headIn m) (datumIn m)) (placeOf m) Spurious")
     for n in NAMES: print(f"mode-at {n} = refl")
-    print("\npub place-lt : (m : Mode) → placeOf m < 24")
+    print("\npub place-lt : (m : Mode) → placeOf m < 25")
     for n in NAMES: print(f"place-lt {n} = lit< tt")
 
 {"specs": specs, "proofs": proofs}[sys.argv[1]]()
