@@ -404,7 +404,7 @@ fn incoming(phase: Phase, misled: bool, m: Move) -> Arrival
 // 5. pass, 6. lose, 7. change and 9. gap: the next node gets what comes to it, and does with it what the table says.
 // (`link::receive` is called from here alone, and so compiled into the step: a second call would copy each mode through memory.)
 pub(crate) fn hear(
-    table: &[u16; 336],
+    table: &[u16; 350],
     n: u8,
     phase: Phase,
     c: Cell,

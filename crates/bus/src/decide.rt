@@ -41,7 +41,7 @@ fn target(n: u8, phase: Phase, pending: &[bool; 63], m: Move) -> u8
 
 // The plan of an action about node i, whose cell is c; the table says what a node does with a signal.
 fn play(
-    table: &[u16; 336],
+    table: &[u16; 350],
     n: u8,
     phase: Phase,
     concatenated: bool,
@@ -82,7 +82,7 @@ pub(crate) fn aim(n: u8, phase: Phase, pending: &[bool; 63], d: Decoded) -> u8
 
 // The plan of a record about node i, whose cell is c: an accepted one is carried out on what passes 12.
 pub(crate) fn decide(
-    table: &[u16; 336],
+    table: &[u16; 350],
     n: u8,
     phase: Phase,
     concatenated: bool,

@@ -1,4 +1,4 @@
--- The table that the constant holds is the chart: one test, computed over its 336 cells, gives the rule at each, and what a node reads there with what modes remember is what the chart says.
+-- The table that the constant holds is the chart: one test, computed over its 350 cells, gives the rule at each, and what a node reads there with what modes remember is what the chart says.
 use mathlib.Core.Path.{_≡_, refl, sym, ap, _∙_}
 use Prim.Native.Nat.{ℕ, _<_}
 use lib.Dec.{T, eqb}
@@ -7,7 +7,7 @@ use borrow.Author.Tests.{eqb-true}
 use Rattle.charts.specs.declared.Seen.the-variants as Sn
 use Rattle.charts.specs.declared.Datum.the-variants as D
 use Rattle.charts.specs.declared.Mode.{Mode}
-use Rattle.charts.specs.declared.Mode.the-variants.{Rest, AwaitAck, AckBody, AckEnd, Opened, Addressed, HeadOwn, HeadAll, BodyOwn, BodyAll, TailOwn, TailAll, Wait, Owed, Sending, Told, Answering, Acking, Holding, Spurious, Listening}
+use Rattle.charts.specs.declared.Mode.the-variants.{Rest, AwaitAck, AckBody, AckEnd, Opened, Addressed, HeadOwn, HeadAll, BodyOwn, BodyAll, TailOwn, TailAll, Wait, Owed, Sending, Told, Answering, Acking, Holding, Spurious, Listening, Asked}
 use Rattle.charts.specs.declared.Signal.{Signal}
 use Rattle.charts.specs.declared.Heard.{Heard}
 use Rattle.charts.specs.Modes.{placeOf, nameAt}
@@ -20,12 +20,12 @@ use Rattle.charts.proofs.Places.{key, place-lt, class-lt}
 use Rattle.link.specs.Reading.{code, indexOf, cells, reads, heardBy}
 
 -- every cell of the table is the rule's
-agrees : T (everyPair (λ p c. eqb (getD cells (indexOf p c) 0) (code (entry p c))) 24 14)
+agrees : T (everyPair (λ p c. eqb (getD cells (indexOf p c) 0) (code (entry p c))) 25 14)
 unfolding cells
 agrees = tt
 
-pub cell-is : (p c : ℕ) → p < 24 → c < 14 → getD cells (indexOf p c) 0 ≡ code (entry p c)
-cell-is p c l k = eqb-true _ _ (pairs-at (λ p c. eqb (getD cells (indexOf p c) 0) (code (entry p c))) 24 14 agrees p c l k)
+pub cell-is : (p c : ℕ) → p < 25 → c < 14 → getD cells (indexOf p c) 0 ≡ code (entry p c)
+cell-is p c l k = eqb-true _ _ (pairs-at (λ p c. eqb (getD cells (indexOf p c) 0) (code (entry p c))) 25 14 agrees p c l k)
 
 -- a node that reads the cell of what the chart says does just that: nothing that a mode remembers is lost
 kept : (me label : ℕ) (m : Mode) (c : ℕ) (s : Signal) → reads (code (entryOf (answer me label m c s))) me label m s ≡ answer me label m c s
@@ -60,6 +60,7 @@ kept me label m c s = go m
     go Holding = refl
     go Spurious = refl
     go Listening = pick (Kept Listening) (eqb c S.start) _ _ refl (pick (Kept Listening) (eqb c S.prefix) _ _ refl (pick (Kept Listening) (eqb c S.gap) _ _ refl refl))
+    go Asked = refl
 
 by-table : (me label : ℕ) (m : Mode) (s : Signal) → heardBy cells me label m s ≡ hears me label m s
 unfolding heardBy hears

@@ -39,13 +39,13 @@ pendsIn x = leb 512 x
 abbrev pub indexOf : ℕ → ℕ → ℕ
 indexOf p c = 14 * p + c
 
--- k cells of the table from index i on; all 336
+-- k cells of the table from index i on; all 350
 abbrev pub cellsFrom : ℕ → ℕ → List ℕ
 cellsFrom zero i = []
 cellsFrom (suc k) i = code (entry (i / 14) (i % 14)) ∷ cellsFrom k (suc i)
 
 unfoldable pub cells : List ℕ
-cells = cellsFrom 336 0
+cells = cellsFrom 350 0
 
 -- what a mode remembers of the signals that led to it
 abbrev pub remembered : Mode → Kept

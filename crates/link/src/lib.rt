@@ -68,7 +68,7 @@ fn say(word: u8, me: u8, label: u8, place: u8, kept: Kept) -> Report
 // What node `me` in a mode does with a signal, by a table of the chart: it looks its cell up, and adds what modes remember, the label of the
 // packet that it is sending, and the name of the mode that it leaves.
 // With the chart's own table this is what the chart says (proofs/Reading.antt).
-pub fn receive(table: &[u16; 336], me: u8, label: u8, mode: Mode, s: Signal) -> Heard
+pub fn receive(table: &[u16; 350], me: u8, label: u8, mode: Mode, s: Signal) -> Heard
     ensures { λ r. ⌜ r ≡ heardBy (now (table .entry)) me label mode s ⌝ }
 {
     let place = modes::place_of(mode);
@@ -173,6 +173,7 @@ pub fn emit(i: u8, mode: Mode, sending: Packet) -> Output
         Mode::Holding => puts(Signal::Prefix, mode),
         Mode::Spurious => Output::Frees,
         Mode::Listening => Output::Nothing,
+        Mode::Asked => Output::Nothing,
     }
 }
 

@@ -1,6 +1,6 @@
 // Modes: their places in the charts' list, what they remember, and the mode of a node that is granted the bus.
 ghost use mathlib.Core.Path.{_≡_};
-ghost use Rattle.charts.specs.Modes.{placeOf, nameAt, isRest, isHolding, isAnswering, isAcking};
+ghost use Rattle.charts.specs.Modes.{placeOf, nameAt, isRest, isHolding, isAnswering, isAcking, isAsked};
 ghost use Rattle.charts.specs.Places.{goodAck, goodDatum};
 ghost use Rattle.charts.specs.Actions.{granted};
 ghost use Rattle.link.specs.Reading.{remembered};
@@ -59,6 +59,8 @@ pub(crate) const SPURIOUS: u8 = 22;
 
 pub(crate) const LISTENING: u8 = 23;
 
+pub(crate) const ASKED: u8 = 24;
+
 // The place of a mode.
 pub(crate) fn place_of(mode: Mode) -> u8
     ensures { λ r. ⌜ r ≡ placeOf mode ⌝ }
@@ -98,6 +100,7 @@ pub(crate) fn place_of(mode: Mode) -> u8
         Mode::Holding => HOLDING,
         Mode::Spurious => SPURIOUS,
         Mode::Listening => LISTENING,
+        Mode::Asked => ASKED,
     }
 }
 
@@ -140,6 +143,12 @@ pub fn is_holding(mode: Mode) -> bool
     ensures { λ r. ⌜ r ≡ isHolding mode ⌝ }
 {
     place_of(mode) == HOLDING
+}
+
+pub fn is_asked(mode: Mode) -> bool
+    ensures { λ r. ⌜ r ≡ isAsked mode ⌝ }
+{
+    place_of(mode) == ASKED
 }
 
 // "Told → Answering, Owed → Spurious, another mode kept"
@@ -222,5 +231,6 @@ pub(crate) fn remembered(mode: Mode) -> Kept
         Mode::Holding => remembers(0, none, 0),
         Mode::Spurious => remembers(0, none, 0),
         Mode::Listening => remembers(0, none, 0),
+        Mode::Asked => remembers(0, none, 0),
     }
 }

@@ -131,6 +131,7 @@ pub fn rule(place: u8, class: u8) -> Entry
             signals::GAP => goes(modes::REST),
             _ => goes(modes::WAIT),
         },
+        modes::ASKED => goes(modes::ASKED),
         _ => goes(modes::SPURIOUS),
     }
 }

@@ -1,11 +1,11 @@
-// The reception chart as one table of 24 × 14 cells: a constant, and its reading.
+// The reception chart as one table of 25 × 14 cells: a constant, and its reading.
 // A cell is one number: the next mode's place, 32 times the number of the report's word, and 512 for a pending mark. tools/cells.py prints the constant.
 ghost use mathlib.Core.Path.{_≡_};
 ghost use Prim.Native.Nat.{_<_};
 ghost use lib.ListN.{getD};
 ghost use Rattle.link.specs.Reading.{placeIn, wordIn, pendsIn, indexOf, cells};
 
-const CELLS: [u16; 336] = [
+const CELLS: [u16; 350] = [
     // Rest
     5,
     0,
@@ -366,18 +366,33 @@ const CELLS: [u16; 336] = [
     15,
     15,
     15,
+    // Asked
+    24,
+    24,
+    24,
+    24,
+    24,
+    24,
+    24,
+    24,
+    24,
+    24,
+    24,
+    24,
+    24,
+    24,
 ];
 
 // The table. Whoever reads it often takes it once and lends it: the constant is built anew wherever it is named.
-pub fn table() -> [u16; 336]
+pub fn table() -> [u16; 350]
     ensures { λ r. ⌜ r ≡ cells ⌝ }
 {
     CELLS
 }
 
 // The cell of a place and a class.
-pub(crate) fn cell_at(table: &[u16; 336], place: u8, class: u8) -> u16
-    requires { ⌜ place < 24 ⌝ }
+pub(crate) fn cell_at(table: &[u16; 350], place: u8, class: u8) -> u16
+    requires { ⌜ place < 25 ⌝ }
     requires { ⌜ class < 14 ⌝ }
     ensures { λ r. ⌜ r ≡ getD (now (table .entry)) (indexOf place class) 0 ⌝ }
 {

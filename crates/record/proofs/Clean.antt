@@ -1,8 +1,8 @@
 -- The fields that must be 0, tested kind by kind, and not in the order in which they are named. Assumes nothing.
 use mathlib.Core.Path.{_≡_, ap, sym, _∙_}
 use mathlib.Core.Bool.{Bool, true, false, _&&_, _||_, and-assoc, and-comm, and-true}
-use lib.Dec.{eqb, ltb}
-use Rattle.charts.specs.Records.{clean}
+use lib.Dec.{eqb}
+use Rattle.charts.specs.Records.{namesNode, clean}
 use Rattle.charts.specs.declared.Action.{Action}
 
 -- a test after two others; tests in another order
@@ -51,6 +51,6 @@ module _ (a : Action) where
   of-respond e = rw e (last-first (eqb (a .byte6) 0) (eqb (a .byte7) 0) packet (eqb (a .address) 0))
 
   pub of-others : eqb (a .kind) 1 ≡ false → eqb (a .kind) 7 ≡ false → eqb (a .kind) 3 ≡ false
-      → (((zeros && packet) && eqb (a .address) 0) && ((ltb (a .kind) 5 || eqb (a .node) 0) && answer)) ≡ clean a
+      → (((zeros && packet) && eqb (a .address) 0) && ((namesNode (a .kind) || eqb (a .node) 0) && answer)) ≡ clean a
   unfolding clean
-  of-others e f g = rw (e, f, g) (last-three-first (eqb (a .byte6) 0) (eqb (a .byte7) 0) packet (eqb (a .address) 0) (ltb (a .kind) 5 || eqb (a .node) 0) answer)
+  of-others e f g = rw (e, f, g) (last-three-first (eqb (a .byte6) 0) (eqb (a .byte7) 0) packet (eqb (a .address) 0) (namesNode (a .kind) || eqb (a .node) 0) answer)

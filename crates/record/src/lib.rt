@@ -5,7 +5,7 @@ ghost use mathlib.Core.List.{[], _∷_};
 ghost use Prim.Native.Nat.{_+_, _<_, _≤_};
 ghost use lib.ListN.{length};
 ghost use lib.Seq.{sets};
-ghost use Rattle.charts.specs.Records.{isKind, namesAddress, clean, isAddress, isLabel, moveOf, read};
+ghost use Rattle.charts.specs.Records.{isKind, namesNode, namesAddress, clean, isAddress, isLabel, moveOf, read};
 ghost use Rattle.record.specs.Bytes.{little, value, hasRoom, putAt};
 ghost use Rattle.record.specs.Layout.{bytesOf, actionAt};
 ghost use Rattle.record.specs.Looked.{numberOf};
@@ -47,11 +47,17 @@ fn wide(x: u8) -> u32
     x as u32
 }
 
-// "kind not 1–10" is 2.
+// "kind not 1–12" is 2.
 fn is_kind(kind: u8) -> bool
     ensures { λ r. ⌜ r ≡ isKind kind ⌝ }
 {
-    both(0 < kind, kind < 11)
+    both(0 < kind, kind < 13)
+}
+
+fn names_node(kind: u8) -> bool
+    ensures { λ r. ⌜ r ≡ namesNode kind ⌝ }
+{
+    either(kind < 5, 10 < kind)
 }
 
 fn names_address(kind: u8) -> bool
@@ -80,7 +86,10 @@ fn is_clean(a: Action) -> bool
     }
     both(
         address,
-        both(either(kind < 5, a.node == 0), both(a.ack == 0, a.hold == 0)),
+        both(
+            either(names_node(kind), a.node == 0),
+            both(a.ack == 0, a.hold == 0),
+        ),
     )
 }
 
@@ -126,7 +135,9 @@ fn move_of(a: Action) -> Move
         7 => Move::Carry(Way::Change(a.address)),
         8 => Move::Grant,
         9 => Move::GapNext,
-        _ => Move::Reset,
+        10 => Move::Reset,
+        11 => Move::Ask(a.node),
+        _ => Move::Decide(a.node),
     }
 }
 
@@ -141,7 +152,7 @@ pub fn decode(n: u8, a: Action) -> Decoded
     if !is_clean(a) {
         return Decoded::Refused(STRAY_FIELD);
     }
-    if both(kind < 5, !(a.node < n)) {
+    if both(names_node(kind), !(a.node < n)) {
         return Decoded::Refused(WRONG_NODE);
     }
     if both(names_address(kind), !is_address(n, a.address)) {

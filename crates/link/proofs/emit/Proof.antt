@@ -78,6 +78,9 @@ enum-told-18 c = search needs
 enum-told-19 : tie.Need-enum-told-19
 enum-told-19 c = search needs
 
+enum-told-20 : tie.Need-enum-told-20
+enum-told-20 c = search needs
+
 returns : tie.Need-returns
 unfolding output
 returns c = simp (c .enum-told .given .1)
@@ -162,6 +165,10 @@ returns-21 : tie.Need-returns-21
 unfolding output
 returns-21 c = simp (c .enum-told19 .given .1)
 
+returns-22 : tie.Need-returns-22
+unfolding output
+returns-22 c = simp (c .enum-told20 .given .1)
+
 pub emit-spec : {M : Type 1} → statement M
 emit-spec =
     tie.close
@@ -191,6 +198,7 @@ emit-spec =
     puts-requires-2
     enum-told-18
     enum-told-19
+    enum-told-20
     returns
     returns-2
     returns-3
@@ -211,4 +219,5 @@ emit-spec =
     returns-18
     returns-19
     returns-20
-    returns-21)
+    returns-21
+    returns-22)

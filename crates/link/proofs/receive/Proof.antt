@@ -14,7 +14,7 @@ class-of-requires : tie.Need-class-of-requires
 class-of-requires c κs = search needs
 
 cell-at-requires : tie.Need-cell-at-requires
-cell-at-requires c κs = (subst (λ x. x < 24) (sym (c .before .place-of .ensures)) (place-lt (c .before .before .args .mode)), subst (λ x. x < 14) (sym (c .class-of .ensures)) (class-lt (c .before .before .args .me) (c .before .before .args .s)))
+cell-at-requires c κs = (subst (λ x. x < 25) (sym (c .before .place-of .ensures)) (place-lt (c .before .before .args .mode)), subst (λ x. x < 14) (sym (c .class-of .ensures)) (class-lt (c .before .before .args .me) (c .before .before .args .s)))
 
 cast-if1 : tie.Need-cast-if1
 cast-if1 c = search needs

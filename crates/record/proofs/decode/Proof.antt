@@ -17,12 +17,15 @@ returns-2 : tie.Need-returns-2
 unfolding read
 returns-2 c = simp (← c .before .before .before .is-kind .ensures, c .before .before .if1 .left, ← c .before .is-clean .ensures, c .if2 .taken)
 
+names-node-requires : tie.Need-names-node-requires
+names-node-requires c κs = search needs
+
 both-requires : tie.Need-both-requires
 both-requires c κs = search needs
 
 returns-3 : tie.Need-returns-3
 unfolding read
-returns-3 c = simp (← c .before .before .before .before .before .before .is-kind .ensures, c .before .before .before .before .before .if1 .left, ← c .before .before .before .before .is-clean .ensures, c .before .before .before .if2 .left, ← c .before .both .ensures, c .if3 .taken)
+returns-3 c = simp (← c .before .before .before .before .before .before .before .is-kind .ensures, c .before .before .before .before .before .before .if1 .left, ← c .before .before .before .before .before .is-clean .ensures, c .before .before .before .before .if2 .left, ← c .before .before .before .names-node .ensures, ← c .before .both .ensures, c .if3 .taken)
 
 names-address-requires : tie.Need-names-address-requires
 names-address-requires c κs = search needs
@@ -35,28 +38,28 @@ both-requires-2 c κs = search needs
 
 returns-4 : tie.Need-returns-4
 unfolding read
-returns-4 c = simp (← c .before .before .before .before .before .before .before .before .before .before .is-kind .ensures, c .before .before .before .before .before .before .before .before .before .if1 .left, ← c .before .before .before .before .before .before .before .before .is-clean .ensures, c .before .before .before .before .before .before .before .if2 .left, ← c .before .before .before .before .before .both .ensures, c .before .before .before .before .if3 .left, ← c .before .before .before .names-address .ensures, ← c .before .before .is-address .ensures, ← c .before .both2 .ensures, c .if4 .taken)
+returns-4 c = simp (← c .before .before .before .before .before .before .before .before .before .before .before .is-kind .ensures, c .before .before .before .before .before .before .before .before .before .before .if1 .left, ← c .before .before .before .before .before .before .before .before .before .is-clean .ensures, c .before .before .before .before .before .before .before .before .if2 .left, ← c .before .before .before .before .before .before .before .names-node .ensures, ← c .before .before .before .before .before .both .ensures, c .before .before .before .before .if3 .left, ← c .before .before .before .names-address .ensures, ← c .before .before .is-address .ensures, ← c .before .both2 .ensures, c .if4 .taken)
 
 is-label-requires : tie.Need-is-label-requires
 is-label-requires c κs = search needs
 
 returns-5 : tie.Need-returns-5
 unfolding read
-returns-5 c = simp (← c .before .before .before .before .before .before .before .before .before .before .before .before .is-kind .ensures, c .before .before .before .before .before .before .before .before .before .before .before .if1 .left, ← c .before .before .before .before .before .before .before .before .before .before .is-clean .ensures, c .before .before .before .before .before .before .before .before .before .if2 .left, ← c .before .before .before .before .before .before .before .both .ensures, c .before .before .before .before .before .before .if3 .left, ← c .before .before .before .before .before .names-address .ensures, ← c .before .before .before .before .is-address .ensures, ← c .before .before .before .both2 .ensures, c .before .before .if4 .left, ← c .before .is-label .ensures, c .if5 .taken)
+returns-5 c = simp (← c .before .before .before .before .before .before .before .before .before .before .before .before .before .is-kind .ensures, c .before .before .before .before .before .before .before .before .before .before .before .before .if1 .left, ← c .before .before .before .before .before .before .before .before .before .before .before .is-clean .ensures, c .before .before .before .before .before .before .before .before .before .before .if2 .left, ← c .before .before .before .before .before .before .before .before .before .names-node .ensures, ← c .before .before .before .before .before .before .before .both .ensures, c .before .before .before .before .before .before .if3 .left, ← c .before .before .before .before .before .names-address .ensures, ← c .before .before .before .before .is-address .ensures, ← c .before .before .before .both2 .ensures, c .before .before .if4 .left, ← c .before .is-label .ensures, c .if5 .taken)
 
 both-requires-3 : tie.Need-both-requires-3
 both-requires-3 c κs = search needs
 
 returns-6 : tie.Need-returns-6
 unfolding read
-returns-6 c = simp (← c .before .before .before .before .before .before .before .before .before .before .before .before .before .before .before .before .is-kind .ensures, c .before .before .before .before .before .before .before .before .before .before .before .before .before .before .before .if1 .left, ← c .before .before .before .before .before .before .before .before .before .before .before .before .before .before .is-clean .ensures, c .before .before .before .before .before .before .before .before .before .before .before .before .before .if2 .left, ← c .before .before .before .before .before .before .before .before .before .before .before .both .ensures, c .before .before .before .before .before .before .before .before .before .before .if3 .left, ← c .before .before .before .before .before .before .before .before .before .names-address .ensures, ← c .before .before .before .before .before .before .before .before .is-address .ensures, ← c .before .before .before .before .before .before .before .both2 .ensures, c .before .before .before .before .before .before .if4 .left, ← c .before .before .before .before .before .is-label .ensures, c .before .before .before .before .if5 .left, ← c .before .both3 .ensures, c .if6 .taken)
+returns-6 c = simp (← c .before .before .before .before .before .before .before .before .before .before .before .before .before .before .before .before .before .is-kind .ensures, c .before .before .before .before .before .before .before .before .before .before .before .before .before .before .before .before .if1 .left, ← c .before .before .before .before .before .before .before .before .before .before .before .before .before .before .before .is-clean .ensures, c .before .before .before .before .before .before .before .before .before .before .before .before .before .before .if2 .left, ← c .before .before .before .before .before .before .before .before .before .before .before .before .before .names-node .ensures, ← c .before .before .before .before .before .before .before .before .before .before .before .both .ensures, c .before .before .before .before .before .before .before .before .before .before .if3 .left, ← c .before .before .before .before .before .before .before .before .before .names-address .ensures, ← c .before .before .before .before .before .before .before .before .is-address .ensures, ← c .before .before .before .before .before .before .before .both2 .ensures, c .before .before .before .before .before .before .if4 .left, ← c .before .before .before .before .before .is-label .ensures, c .before .before .before .before .if5 .left, ← c .before .both3 .ensures, c .if6 .taken)
 
 move-of-requires : tie.Need-move-of-requires
 move-of-requires c κs = search needs
 
 returns-7 : tie.Need-returns-7
 unfolding read
-returns-7 c = simp (← c .before .before .before .before .before .before .before .before .before .before .before .before .before .before .before .before .before .is-kind .ensures, c .before .before .before .before .before .before .before .before .before .before .before .before .before .before .before .before .if1 .left, ← c .before .before .before .before .before .before .before .before .before .before .before .before .before .before .before .is-clean .ensures, c .before .before .before .before .before .before .before .before .before .before .before .before .before .before .if2 .left, ← c .before .before .before .before .before .before .before .before .before .before .before .before .both .ensures, c .before .before .before .before .before .before .before .before .before .before .before .if3 .left, ← c .before .before .before .before .before .before .before .before .before .before .names-address .ensures, ← c .before .before .before .before .before .before .before .before .before .is-address .ensures, ← c .before .before .before .before .before .before .before .before .both2 .ensures, c .before .before .before .before .before .before .before .if4 .left, ← c .before .before .before .before .before .before .is-label .ensures, c .before .before .before .before .before .if5 .left, ← c .before .before .both3 .ensures, c .before .if6 .left, c .move-of .ensures)
+returns-7 c = simp (← c .before .before .before .before .before .before .before .before .before .before .before .before .before .before .before .before .before .before .is-kind .ensures, c .before .before .before .before .before .before .before .before .before .before .before .before .before .before .before .before .before .if1 .left, ← c .before .before .before .before .before .before .before .before .before .before .before .before .before .before .before .before .is-clean .ensures, c .before .before .before .before .before .before .before .before .before .before .before .before .before .before .before .if2 .left, ← c .before .before .before .before .before .before .before .before .before .before .before .before .before .before .names-node .ensures, ← c .before .before .before .before .before .before .before .before .before .before .before .before .both .ensures, c .before .before .before .before .before .before .before .before .before .before .before .if3 .left, ← c .before .before .before .before .before .before .before .before .before .before .names-address .ensures, ← c .before .before .before .before .before .before .before .before .before .is-address .ensures, ← c .before .before .before .before .before .before .before .before .both2 .ensures, c .before .before .before .before .before .before .before .if4 .left, ← c .before .before .before .before .before .before .is-label .ensures, c .before .before .before .before .before .if5 .left, ← c .before .before .both3 .ensures, c .before .if6 .left, c .move-of .ensures)
 
 pub decode-spec : {M : Type 1} → statement M
 decode-spec =
@@ -66,6 +69,7 @@ decode-spec =
     returns
     is-clean-requires
     returns-2
+    names-node-requires
     both-requires
     returns-3
     names-address-requires

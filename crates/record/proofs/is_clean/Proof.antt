@@ -49,6 +49,9 @@ returns-3 c =
     c .before .both10 .ensures
     ∙ rw (c .before .before .before .before .both6 .ensures, c .before .before .before .before .before .before .before .before .before .before .before .both .ensures, c .before .before .before .before .before .both5 .ensures, c .before .before .before .before .before .before .both4 .ensures) (of-respond (c .before .before .before .before .before .before .before .before .before .before .before .before .before .before .args .a) (c .if3 .taken))
 
+names-node-requires : tie.Need-names-node-requires
+names-node-requires c κs = search needs
+
 either-requires : tie.Need-either-requires
 either-requires c κs = search needs
 
@@ -64,8 +67,8 @@ both-requires-13 c κs = search needs
 returns-4 : tie.Need-returns-4
 returns-4 c =
     c .both13 .ensures
-    ∙ rw (c .before .before .before .before .before .before .before .before .both10 .ensures, c .before .before .before .before .before .before .before .before .before .before .before .both6 .ensures, c .before .before .before .before .before .before .before .before .before .before .before .before .before .before .before .before .before .before .both .ensures, c .before .before .before .before .before .before .before .before .before .before .before .before .both5 .ensures, c .before .before .before .before .before .before .before .before .before .before .before .before .before .both4 .ensures, c .before .both12 .ensures, c .before .before .before .before .before .either .ensures, c .before .before .both11 .ensures)
-    (of-others (c .before .before .before .before .before .before .before .before .before .before .before .before .before .before .before .before .before .before .before .before .before .args .a) (ne-eqb _ _ (c .before .before .before .before .before .before .before .before .before .before .before .before .before .before .before .before .before .if1 .left)) (ne-eqb _ _ (c .before .before .before .before .before .before .before .before .before .before .if2 .left)) (ne-eqb _ _ (c .before .before .before .before .before .before .before .if3 .left)))
+    ∙ rw (c .before .before .before .before .before .before .before .before .before .both10 .ensures, c .before .before .before .before .before .before .before .before .before .before .before .before .both6 .ensures, c .before .before .before .before .before .before .before .before .before .before .before .before .before .before .before .before .before .before .before .both .ensures, c .before .before .before .before .before .before .before .before .before .before .before .before .before .both5 .ensures, c .before .before .before .before .before .before .before .before .before .before .before .before .before .before .both4 .ensures, c .before .both12 .ensures, c .before .before .before .before .before .either .ensures, c .before .before .before .before .before .before .before .names-node .ensures, c .before .before .both11 .ensures)
+    (of-others (c .before .before .before .before .before .before .before .before .before .before .before .before .before .before .before .before .before .before .before .before .before .before .args .a) (ne-eqb _ _ (c .before .before .before .before .before .before .before .before .before .before .before .before .before .before .before .before .before .before .if1 .left)) (ne-eqb _ _ (c .before .before .before .before .before .before .before .before .before .before .before .if2 .left)) (ne-eqb _ _ (c .before .before .before .before .before .before .before .before .if3 .left)))
 
 pub is-clean-spec : {M : Type 1} → statement M
 is-clean-spec =
@@ -84,6 +87,7 @@ is-clean-spec =
     returns-2
     both-requires-10
     returns-3
+    names-node-requires
     either-requires
     both-requires-11
     both-requires-12

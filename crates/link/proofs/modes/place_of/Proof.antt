@@ -83,6 +83,9 @@ enum-told-23 c = search needs
 enum-told-24 : tie.Need-enum-told-24
 enum-told-24 c = search needs
 
+enum-told-25 : tie.Need-enum-told-25
+enum-told-25 c = search needs
+
 returns : tie.Need-returns
 returns c = simp (c .enum-told .given .1)
 
@@ -155,6 +158,9 @@ returns-23 c = simp (c .enum-told23 .given .1)
 returns-24 : tie.Need-returns-24
 returns-24 c = simp (c .enum-told24 .given .1)
 
+returns-25 : tie.Need-returns-25
+returns-25 c = simp (c .enum-told25 .given .1)
+
 pub place-of-spec : {M : Type 1} → statement M
 place-of-spec =
     tie.close
@@ -186,6 +192,7 @@ place-of-spec =
     enum-told-22
     enum-told-23
     enum-told-24
+    enum-told-25
     returns
     returns-2
     returns-3
@@ -209,4 +216,5 @@ place-of-spec =
     returns-21
     returns-22
     returns-23
-    returns-24)
+    returns-24
+    returns-25)

@@ -137,6 +137,12 @@ enum-told-15 c = search needs
 remembers-requires-21 : tie.Need-remembers-requires-21
 remembers-requires-21 c κs = search needs
 
+enum-told-16 : tie.Need-enum-told-16
+enum-told-16 c = search needs
+
+remembers-requires-22 : tie.Need-remembers-requires-22
+remembers-requires-22 c κs = search needs
+
 returns : tie.Need-returns
 returns c = simp (c .before .enum-told .given .1, c .remembers .ensures)
 
@@ -200,6 +206,9 @@ returns-20 c = simp (c .before .enum-told14 .given .1, c .remembers20 .ensures)
 returns-21 : tie.Need-returns-21
 returns-21 c = simp (c .before .enum-told15 .given .1, c .remembers21 .ensures)
 
+returns-22 : tie.Need-returns-22
+returns-22 c = simp (c .before .enum-told16 .given .1, c .remembers22 .ensures)
+
 pub remembered-spec : {M : Type 1} → statement M
 remembered-spec =
     tie.close
@@ -249,6 +258,8 @@ remembered-spec =
     remembers-requires-20
     enum-told-15
     remembers-requires-21
+    enum-told-16
+    remembers-requires-22
     returns
     returns-2
     returns-3
@@ -269,4 +280,5 @@ remembered-spec =
     returns-18
     returns-19
     returns-20
-    returns-21)
+    returns-21
+    returns-22)
