@@ -92,6 +92,10 @@ impl Bus {
             Action::Request { node, packet } => self.request(node, packet),
             Action::Arbitrate { node } => self.arbitrate(node),
             Action::Respond { node, ack, hold } => self.respond(node, ack, hold),
+            Action::Ask { node } => self.ask(node),
+            Action::Decide { node } => self.decide(node),
+            // "While a node is Asked, kinds 4 to 10 are not open."
+            _ if self.asked().next().is_some() => Err(Refusal::NotOpen),
             Action::Clock { node } => self.clock(node),
             Action::Pass | Action::Lose | Action::Change { .. } => self.deliver(action),
             Action::Grant => self.grant(),
@@ -102,6 +106,11 @@ impl Bus {
 
     pub fn node(&self, node: u8) -> &Node {
         &self.nodes[usize::from(node)]
+    }
+
+    /// The nodes that are Asked, lowest first; those from n on are not looked at.
+    pub fn asked(&self) -> impl Iterator<Item = u8> + '_ {
+        (0..self.n).filter(|&node| self.node(node).mode == Mode::Asked)
     }
 
     fn node_mut(&mut self, node: u8) -> &mut Node {
@@ -125,11 +134,32 @@ impl Bus {
 
     /// Kind 2: "in Rest, buffer full."
     fn arbitrate(&mut self, node: u8) -> Outcome {
-        let (Mode::Rest, Some(packet)) = (self.node(node).mode, self.node(node).buffer) else {
+        self.decide_in(Mode::Rest, node)
+    }
+
+    /// Kind 11: "in Rest with a full buffer → Asked […]; any bus."
+    fn ask(&mut self, node: u8) -> Outcome {
+        let record = self.node_mut(node);
+        let (Mode::Rest, Some(_)) = (record.mode, record.buffer) else {
             return Err(Refusal::NotOpen);
         };
-        // "Otherwise report lost; nothing changes."
+        record.mode = Mode::Asked;
+        Ok(None)
+    }
+
+    /// Kind 12: "an Asked node with a full buffer is decided as kind 2 decides, won or lost".
+    fn decide(&mut self, node: u8) -> Outcome {
+        self.decide_in(Mode::Asked, node)
+    }
+
+    /// Won or lost, for a node that is in this mode, Rest or Asked, and has a full buffer.
+    fn decide_in(&mut self, mode: Mode, node: u8) -> Outcome {
+        let Some(packet) = self.node(node).buffer.filter(|_| self.node(node).mode == mode) else {
+            return Err(Refusal::NotOpen);
+        };
+        // "Otherwise report lost; nothing changes." "a loser returns to Rest"
         if self.phase != Phase::Idle || self.won.has(node) {
+            self.node_mut(node).mode = Mode::Rest;
             return Ok(Some(Reported { node, report: Report::Lost }));
         }
         // "Bus Idle and not marked won: report won, mark won and holder, bus Busy, packet leaves
@@ -232,7 +262,7 @@ impl Bus {
         self.phase = Phase::Delivering { sender, signal, receiver };
     }
 
-    /// Kinds 5, 6 and 7: who gets what, or 7. `None` is for "it gets nothing".
+    /// Kinds 5, 6 and 7 where no node is Asked: who gets what, or 7. `None` is for "it gets nothing".
     pub fn arrival(&self, action: Action) -> Result<(u8, Option<Signal>), Refusal> {
         let Phase::Delivering { signal, receiver, .. } = self.phase else {
             return Err(Refusal::NotOpen);
@@ -358,10 +388,11 @@ impl Bus {
     }
 
     /// "A *forward* action is an accepted one that is not kind 2, not 10, not a kind 1 into a
-    /// buffer, not a filler clock." Asked of an action that is open on this bus.
+    /// buffer, not a filler clock." "Kind 11 is no forward action and kind 12 is one". To be called
+    /// with an action that is open on this bus.
     pub fn is_forward(&self, action: Action) -> bool {
         match action {
-            Action::Arbitrate { .. } | Action::Reset => false,
+            Action::Arbitrate { .. } | Action::Reset | Action::Ask { .. } => false,
             Action::Request { node, .. } => self.node(node).mode == Mode::Holding,
             _ => !self.is_filler(action),
         }

@@ -2,6 +2,7 @@
 //! `list` and `sums` held against it, sample runs checked, demand 3 watched, one transaction and its
 //! reply walked through whole, and figures taken.
 
+pub mod asking;
 pub mod bench;
 pub mod child;
 pub mod compare;

@@ -16,7 +16,7 @@ model compose [--lines]                           a run in plain words in, a run
                                                   says how many actions
 model list                                        a run file in, the run in plain words out
 model sums                                        a run file in, the sums of its blocks out
-model table                                       the reception chart, 24 lines of 14 cells
+model table                                       the reception chart, 25 lines of 14 cells
 model compare PLAY [--files N] [--seed S] [--only K]
                                                   made files, played by PLAY and by the model
 model fuzz PLAY [--files N] [--seed S]            bytes without a plan

@@ -288,6 +288,8 @@ impl<'a> Fields<'a> {
             b"grant" => of(8),
             b"gap" => of(9),
             b"reset" => of(10),
+            b"ask" => Record { node: self.byte("the node of ask")?, ..of(11) },
+            b"decide" => Record { node: self.byte("the node of decide")?, ..of(12) },
             _ => return Err(Flaw::by(Fault::UnknownWord, quoted(name))),
         })
     }
@@ -544,6 +546,8 @@ pub fn print_action(text: &mut Vec<u8>, action: Action) {
         Action::Grant => "grant".into(),
         Action::Gap => "gap".into(),
         Action::Reset => "reset".into(),
+        Action::Ask { node } => format!("ask {node}"),
+        Action::Decide { node } => format!("decide {node}"),
     };
     text.extend_from_slice(line.as_bytes());
     text.push(b'\n');

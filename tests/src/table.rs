@@ -28,8 +28,8 @@ pub const CLASSES: [&str; 14] = [
 
 /// The modes by place, with their names: "in document 01's order (the good one of two first, new
 /// modes last)". "AckEnd counts as two modes (good Ack or not), TailOwn and TailAll as two each
-/// (data good or bad). With Listening that makes 24 modes".
-pub const MODES: [(&str, Mode); 24] = [
+/// (data good or bad). With Listening that makes 24 modes", and with Asked "the table has 25 modes".
+pub const MODES: [(&str, Mode); 25] = [
     ("Rest", Mode::Rest),
     ("AwaitAck", Mode::AwaitAck),
     ("AckBody", Mode::AckBody),
@@ -54,6 +54,7 @@ pub const MODES: [(&str, Mode); 24] = [
     ("Holding", Mode::Holding),
     ("Spurious", Mode::Spurious),
     ("Listening", Mode::Listening),
+    ("Asked", Mode::Asked),
 ];
 
 /// "the next mode's place from 0"

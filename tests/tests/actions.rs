@@ -1,4 +1,4 @@
-//! The ten actions where the marked cases do not look, and the traps.
+//! The first ten actions where the marked cases do not look, and the traps.
 
 mod common;
 
@@ -429,7 +429,7 @@ fn grant_of_a_state_handed_in() {
 fn a_holder_in_another_mode_has_no_clock() {
     let mut bus = Bus { phase: Phase::Busy, ..Bus::fresh(2).unwrap() };
     bus.holder.set(0);
-    for mode in [Mode::Rest, Mode::AwaitAck, Mode::Wait, Mode::Owed, Mode::Told] {
+    for mode in [Mode::Rest, Mode::AwaitAck, Mode::Wait, Mode::Owed, Mode::Told, Mode::Asked] {
         bus.nodes[0].mode = mode;
         assert_eq!(bus.step(&clock(0)).unwrap_err().number(), 7);
     }

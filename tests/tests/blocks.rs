@@ -277,7 +277,7 @@ fn the_writer() {
         assert_eq!(sums, [0; 31], "and has no sums");
         written.expect_err("a refusal").number()
     };
-    let wrong = Record { kind: 11, ..Record::default() };
+    let wrong = Record { kind: 13, ..Record::default() };
     assert_eq!(refused(64, &[]), 1);
     assert_eq!(refused(2, &[]), 11);
     assert_eq!(refused(2, &[wrong; 32]), 11);

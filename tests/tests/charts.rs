@@ -1,4 +1,4 @@
-//! "What a node does with a signal": all 336 cells, as a table written by hand from the rows.
+//! "What a node does with a signal": all 350 cells, as a table written by hand from the rows.
 
 mod common;
 
@@ -36,7 +36,7 @@ fn every_cell() {
                 cells += 1;
             }
         }
-        assert_eq!(cells, 336);
+        assert_eq!(cells, 350);
     }
 }
 

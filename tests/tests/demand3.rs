@@ -48,6 +48,21 @@ fn a_node_that_does_not_rest_is_seen() {
     assert!(watch.look().unwrap_err().contains("does not rest"));
 }
 
+/// "an Idle bus may have nodes in Rest or Asked"
+#[test]
+fn nodes_that_are_asked_on_an_idle_bus_pass() {
+    let watch = watched(3, &[request(0, 1, 5, 6), request(2, 1, 5, 6), ask(2), ask(0)]).unwrap();
+    assert_eq!(watch.bus.phase, Phase::Idle);
+    assert_eq!(watch.bus.asked().collect::<Vec<_>>(), [0, 2]);
+}
+
+#[test]
+fn an_asked_node_without_a_packet_is_seen() {
+    let mut watch = watched(2, &case_b()).unwrap();
+    watch.bus.nodes[1].mode = Mode::Asked;
+    assert!(watch.look().unwrap_err().contains("is Asked, and its buffer is empty"));
+}
+
 #[test]
 fn a_mark_on_an_idle_bus_is_seen() {
     let mut watch = watched(2, &replied()).unwrap();
@@ -296,28 +311,43 @@ fn starts_at_once_or_with_won() {
 }
 
 #[test]
-fn the_longest_way_is_21n_plus_1() {
+fn the_longest_way_is_22n() {
     let text = walk::walk(2).unwrap();
-    assert!(text.ends_with("longest way of forward actions to Idle 43\n"), "{text}");
-    assert!(text.contains("54 of 336 cells met, 11 of them drops"), "{text}");
+    assert!(text.ends_with("longest way of forward actions to Idle 44, bound 46\n"), "{text}");
+    assert!(text.contains("54 of 350 cells met, 11 of them drops"), "{text}");
+    assert!(text.contains("up to 1 nodes Asked"), "{text}");
     let text = walk::walk(3).unwrap();
-    assert!(text.ends_with("longest way of forward actions to Idle 64\n"), "{text}");
-    assert!(text.contains("63 of 336 cells met, 15 of them drops"), "{text}");
+    assert!(text.ends_with("longest way of forward actions to Idle 66, bound 68\n"), "{text}");
+    assert!(text.contains("63 of 350 cells met, 15 of them drops"), "{text}");
+    assert!(text.contains("up to 2 nodes Asked"), "{text}");
 }
 
-/// From the win of a request to another node, the longest continuation is as long as that.
+/// How many forward actions a long continuation takes to Idle.
+fn longest_from(mut watch: Watch) -> usize {
+    let mut random = Random::new(7);
+    let mut taken = 0;
+    while watch.bus.phase != Phase::Idle {
+        let action = forward::choose(&watch.bus, Choice::Longest, &mut random).unwrap();
+        watch.step(&action.into()).unwrap().unwrap();
+        taken += 1;
+    }
+    taken
+}
+
+/// From the win of a request to another node: 21n + 1, and a decision more for each of the other nodes
+/// that has asked. With all of them that is over 21n + 2 from n = 3 on.
 #[test]
-fn the_longest_continuation_is_21n_plus_1() {
+fn the_longest_continuation_is_22n() {
     for n in [2, 3, 8, 63] {
-        let mut watch = watched(n, &[request(0, 1, 5, 6), arbitrate(0)]).unwrap();
-        let mut random = Random::new(7);
-        let mut taken = 0;
-        while let Some(action) = forward::choose(&watch.bus, Choice::Longest, &mut random) {
-            watch.step(&action.into()).unwrap().unwrap();
-            taken += 1;
-        }
-        assert_eq!(watch.bus.phase, Phase::Idle);
-        assert_eq!(taken, 21 * usize::from(n) + 1);
+        let won = [request(0, 1, 5, 6), arbitrate(0)];
+        assert_eq!(longest_from(watched(n, &won).unwrap()), 21 * usize::from(n) + 1);
+        let mut run = vec![request(0, 1, 5, 6)];
+        run.extend((1..n).map(|node| request(node, 0, 7, 8)));
+        run.extend((0..n).map(ask));
+        run.push(decide(0));
+        let taken = longest_from(watched(n, &run).unwrap());
+        assert_eq!(taken, 22 * usize::from(n));
+        assert_eq!(taken > 21 * usize::from(n) + 2, n > 2);
     }
 }
 

@@ -70,6 +70,8 @@ fn each_action() {
     assert_eq!(acts("grant"), grant());
     assert_eq!(acts("gap"), gap());
     assert_eq!(acts("reset"), reset());
+    assert_eq!(acts("ask 4"), ask(4));
+    assert_eq!(acts("decide 0xff"), decide(255));
     assert_eq!(read_line(b"nodes 3"), Ok(Line::Nodes(3)));
     assert_eq!(read_line(b"nodes 255"), Ok(Line::Nodes(255)));
 }
@@ -206,6 +208,8 @@ fn fields_from_left_to_right() {
         "respond",
         "respond 1",
         "clock",
+        "ask",
+        "decide # 1",
     ] {
         assert_eq!(fault(line.as_bytes()), Fault::MissingField, "{line}");
     }
@@ -225,6 +229,12 @@ fn fields_from_left_to_right() {
         "clock 0 label 7",
         "change 1 label 7",
         "pass label 7",
+        "ask 0 label 7",
+        "decide 0 label 7",
+        "ask 0 1",
+        "ask 0 hold",
+        "decide 0 0",
+        "decide 0 won",
         "arbitrate 0 0",
         "respond 1 1 0",
         "respond 1 1 hold hold",
@@ -246,6 +256,11 @@ fn fields_from_left_to_right() {
     assert_eq!(fault(b"change x"), Fault::NotANumber);
     assert_eq!(fault(b"change label 7"), Fault::NotANumber);
     assert_eq!(fault(b"clock all"), Fault::NotANumber);
+    assert_eq!(fault(b"ask all"), Fault::NotANumber);
+    assert_eq!(fault(b"decide all"), Fault::NotANumber);
+    assert_eq!(fault(b"Ask 0"), Fault::UnknownWord);
+    assert_eq!(fault(b"asked 0"), Fault::UnknownWord);
+    assert_eq!(fault(b"decides 0"), Fault::UnknownWord);
     assert_eq!(fault(b"request 256 x"), Fault::TooLarge);
     assert_eq!(fault(b"request x 256"), Fault::NotANumber);
     assert_eq!(fault(b"request 256"), Fault::TooLarge);
@@ -385,6 +400,9 @@ fn the_field() {
     for (line, field, most) in [
         ("clock", "the node of clock", "255"),
         ("arbitrate", "the node of arbitrate", "255"),
+        ("ask", "the node of ask", "255"),
+        ("decide", "the node of decide", "255"),
+        ("decide 1 *", "the count after *", "4294967295"),
         ("request", "the node of request", "255"),
         ("request 1", "the address of request", "255"),
         ("request 1 all", "the header of request", "4294967295"),
@@ -418,6 +436,8 @@ fn the_field() {
     }
     // Where a field is still to come, a repeat is a word in its place.
     assert_eq!(flaw(b"clock * 2"), "not a number: \"*\", the node of clock");
+    assert_eq!(flaw(b"ask * 2"), "not a number: \"*\", the node of ask");
+    assert_eq!(flaw(b"decide * 2"), "not a number: \"*\", the node of decide");
     assert_eq!(flaw(b"request 0 1 5 * 2"), "not a number: \"*\", the data of request");
     assert_eq!(flaw(b"request 0 1 5 6 label * 2"), "not a number: \"*\", the label of request");
     assert_eq!(flaw(b"request 0 1 5 label 7"), "not a number: \"label\", the data of request");
@@ -538,6 +558,8 @@ fn the_statement() {
         ("\t clock\t9 \r", "4: clock 9: no node 9, nodes are 0 to 8"),
         ("clock\t\r 0X9\t*  100# * 3", "4: clock   0X9 *  100: no node 9, nodes are 0 to 8"),
         ("arbitrate 255 # x", "4: arbitrate 255: no node 255, nodes are 0 to 8"),
+        ("ask  9", "4: ask  9: no node 9, nodes are 0 to 8"),
+        ("decide 0x3F * 2", "4: decide 0x3F * 2: no node 63, nodes are 0 to 8"),
         ("request 0x09 64 1 2", "4: request 0x09 64 1 2: no node 9, nodes are 0 to 8"),
         (
             "request 8 0xFF 1 2",
@@ -690,6 +712,8 @@ fn each_line_printed() {
         (Action::Grant, "grant\n"),
         (Action::Gap, "gap\n"),
         (Action::Reset, "reset\n"),
+        (Action::Ask { node: 0 }, "ask 0\n"),
+        (Action::Decide { node: 62 }, "decide 62\n"),
     ] {
         let mut text = Vec::new();
         print_action(&mut text, action);
@@ -720,6 +744,11 @@ fn listings() {
         (labelled(1, 0, 0, 0, 64), 13),
         (labelled(1, 2, 0, 0, 64), 5),
         (Record { label: 1, ..clock(1) }, 3),
+        (Record { hold: 1, ..ask(1) }, 3),
+        (Record { address: 1, ..decide(1) }, 3),
+        (ask(2), 4),
+        (decide(255), 4),
+        (Record { kind: 13, ..decide(1) }, 2),
     ] {
         runfile::write_unchecked(&mut block, 0, 2, &[pass(), record, lose()]);
         assert_eq!(list(&block), format!("nodes 2\npass\nrefused 1 {number}\n").as_bytes());

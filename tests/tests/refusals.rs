@@ -50,7 +50,7 @@ fn a_refused_fresh_bus_is_like_a_fresh_one_of_none() {
 fn in_order_from_12_to_7() {
     let no_state = Bus { phase: Phase::Gapping { node: 2 }, ..fresh(2) };
     let all = Record {
-        kind: 11,
+        kind: 13,
         node: 2,
         address: 2,
         ack: 16,
@@ -87,7 +87,7 @@ fn in_order_from_12_to_7_while_the_mark_is_set() {
     no_state.nodes[1].sending.address = 2;
     let held = respond(0, 15, 1);
     assert_eq!(refused(&no_state, held), 12);
-    assert_eq!(refused(&answering, Record { kind: 11, ..held }), 2);
+    assert_eq!(refused(&answering, Record { kind: 13, ..held }), 2);
     assert_eq!(refused(&answering, Record { zeros: [1, 0], ..held }), 3);
     assert_eq!(refused(&answering, Record { label: 64, ..held }), 3);
     assert_eq!(refused(&answering, Record { address: 2, ..held }), 3);
@@ -99,10 +99,10 @@ fn in_order_from_12_to_7_while_the_mark_is_set() {
 }
 
 #[test]
-fn kinds_are_1_to_10() {
+fn kinds_are_1_to_12() {
     for kind in 0..=255 {
         let said = fresh(2).step(&Record { kind, ..Record::default() });
-        assert_eq!(said == Err(Refusal::Kind), !(1..=10).contains(&kind), "kind {kind}");
+        assert_eq!(said == Err(Refusal::Kind), !(1..=12).contains(&kind), "kind {kind}");
     }
 }
 
@@ -110,7 +110,7 @@ fn kinds_are_1_to_10() {
 #[test]
 fn fields_that_a_kind_does_not_name() {
     // node, address, acknowledgement, hold, label, header, data
-    let named: [[u8; 7]; 10] = [
+    let named: [[u8; 7]; 12] = [
         [1, 1, 0, 0, 1, 1, 1], // request
         [1, 0, 0, 0, 0, 0, 0], // arbitrate
         [1, 0, 1, 1, 0, 0, 0], // respond
@@ -121,6 +121,8 @@ fn fields_that_a_kind_does_not_name() {
         [0, 0, 0, 0, 0, 0, 0], // grant
         [0, 0, 0, 0, 0, 0, 0], // gap
         [0, 0, 0, 0, 0, 0, 0], // reset
+        [1, 0, 0, 0, 0, 0, 0], // ask
+        [1, 0, 0, 0, 0, 0, 0], // decide
     ];
     for (kind, names) in (1..).zip(named) {
         let bare = Record { kind, ..Record::default() };
@@ -150,7 +152,7 @@ fn fields_that_a_kind_does_not_name() {
 /// do not name. Bytes 6 and 7 are zeros for all.
 #[test]
 fn bytes_5_to_7_of_each_kind() {
-    for kind in 1..=10 {
+    for kind in 1..=12 {
         for byte in [1, 63, 64, 255] {
             let with = |place: usize| {
                 let mut bytes = [0; 16];
@@ -194,7 +196,7 @@ fn a_label_over_63_in_its_place() {
         // What 6 looks at is not named here.
         assert_eq!(refused(&bus, Record { ack: 16, ..wrong }), 3);
         assert_eq!(refused(&bus, Record { hold: 2, ..wrong }), 3);
-        assert_eq!(refused(&bus, Record { kind: 11, ..wrong }), 2);
+        assert_eq!(refused(&bus, Record { kind: 13, ..wrong }), 2);
         assert_eq!(refused(&Bus { n: 64, ..bus }, wrong), 12);
     }
     // From Holding too.
@@ -268,11 +270,14 @@ fn kinds_open_in_each_phase() {
             grant(),
             gap(),
             reset(),
+            ask(1),
+            decide(1),
         ];
         records.iter().filter(|record| bus.clone().step(record).is_ok()).map(|r| r.kind).collect()
     };
     assert_eq!(kinds(&fresh(2)), [1]);
-    assert_eq!(kinds(&after(2, &[request(1, 0, 0, 0)])), [2]);
+    assert_eq!(kinds(&after(2, &[request(1, 0, 0, 0)])), [2, 11]);
+    assert_eq!(kinds(&after(2, &[request(1, 0, 0, 0), ask(1)])), [12]);
     let run = case_b();
     assert_eq!(kinds(&after(2, &run[..2])), [1, 4], "Busy");
     assert_eq!(kinds(&after(2, &run[..3])), [1, 5], "Delivering Start, 1 in Rest");
@@ -342,6 +347,7 @@ fn no_state() {
         with_node(Mode::AckEnd { good: Some(15) }),
         with_node(Mode::AckEnd { good: None }),
         with_node(Mode::Listening),
+        with_node(Mode::Asked),
         Bus { phase: Phase::Busy, ..fresh(3) },
         Bus { phase: Phase::Granting, ..fresh(3) },
     ];

@@ -19,6 +19,7 @@ fn samples_as_they_stand() {
         "case-f1",
         "case-f2",
         "concatenated-response",
+        "contention",
         "dropped-header",
         "fairness-interval",
         "labels",

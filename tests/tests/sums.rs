@@ -140,7 +140,7 @@ fn a_refused_write() {
     assert_eq!(refused(512, 64, &[pass()]), 1);
     assert_eq!(refused(512, 2, &[]), 11);
     assert_eq!(refused(512, 2, &[pass(); 32]), 11);
-    assert_eq!(last(Record { kind: 11, ..pass() }), 2);
+    assert_eq!(last(Record { kind: 13, ..pass() }), 2);
     assert_eq!(last(Record { node: 1, ..pass() }), 3);
     assert_eq!(last(clock(2)), 4);
     assert_eq!(last(change(2)), 5);
@@ -199,8 +199,8 @@ fn refused_after_the_line() {
     ends(&second(labelled(1, 63, 0, 0, 64)), "refused 1 13");
     ends(&second(respond(1, 0, 2)), "refused 1 6");
     // Kind 11 at the first: 11 · 15, then 5 · 31 more.
-    let first = summed_run(2, &[Record { kind: 11, ..pass() }, pass()]);
-    assert_eq!(first, "0 165 320\nrefused 0 2\n");
+    let first = summed_run(2, &[Record { kind: 13, ..pass() }, pass()]);
+    assert_eq!(first, "0 195 350\nrefused 0 2\n");
     // The last of a full block; the next block is not reached.
     let mut run = [pass(); 40];
     run[30] = clock(2);

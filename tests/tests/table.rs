@@ -10,7 +10,7 @@ use bench_model::bus::Signal;
 use bench_model::table::{class, place, signals, text, Cell, CLASSES, MODES};
 use common::chart::{rows, RECEIVERS};
 
-/// The printed words of each cell: 24 lines of 14 times three.
+/// The printed words of each cell: 25 lines of 14 times three.
 fn printed() -> Vec<Vec<[String; 3]>> {
     let cells = |line: &str| -> Vec<[String; 3]> {
         let words: Vec<&str> = line.split(' ').collect();
@@ -43,7 +43,7 @@ fn counts(word: usize) -> BTreeMap<String, usize> {
 }
 
 fn expect<const N: usize>(counts: BTreeMap<String, usize>, expected: [(&str, usize); N]) {
-    assert_eq!(expected.iter().map(|(_, count)| count).sum::<usize>(), 336);
+    assert_eq!(expected.iter().map(|(_, count)| count).sum::<usize>(), 350);
     assert_eq!(counts, expected.map(|(word, count)| (word.to_string(), count)).into());
 }
 
@@ -51,7 +51,7 @@ fn expect<const N: usize>(counts: BTreeMap<String, usize>, expected: [(&str, usi
 fn shape() {
     let text = text();
     assert!(text.ends_with('\n'));
-    assert_eq!(text.lines().count(), 24);
+    assert_eq!(text.lines().count(), 25);
     for line in text.lines() {
         let words: Vec<&str> = line.split(' ').collect();
         assert_eq!(words.len(), 42, "{line}");
@@ -68,10 +68,16 @@ fn first_line() {
     assert!(text().starts_with(first));
 }
 
+/// "Asked stays on every signal": the last line.
+#[test]
+fn last_line() {
+    assert!(text().ends_with(&format!("\n{}\n", ["24 - 0"; 14].join(" "))));
+}
+
 #[test]
 fn every_cell() {
     let (printed, by_hand) = (printed(), by_hand());
-    assert_eq!((printed.len(), by_hand.len()), (24, 24));
+    assert_eq!((printed.len(), by_hand.len()), (25, 25));
     for (line, (name, _)) in rows().into_iter().enumerate() {
         assert_eq!((printed[line].len(), by_hand[line].len()), (14, 14), "{name}");
         for class in 0..14 {
@@ -83,7 +89,7 @@ fn every_cell() {
 /// "the node is entered as *pending* on the bus": Addressed (6) on Dest own (5), and nowhere else.
 #[test]
 fn one_pending_mark() {
-    expect(counts(2), [("0", 335), ("1", 1)]);
+    expect(counts(2), [("0", 349), ("1", 1)]);
     assert_eq!(printed()[6][5], ["7", "-", "1"]);
 }
 
@@ -98,7 +104,7 @@ fn reports() {
     expect(
         counts(1),
         [
-            ("-", 177),
+            ("-", 191),
             ("miss", 42),
             ("ack", 2),
             ("good", 2),
@@ -149,6 +155,7 @@ fn next_modes() {
             ("22", 14),
             // Prefix in AckEnd after a good Ack, and in Listening
             ("23", 2),
+            ("24", 14),
         ],
     );
 }
@@ -238,7 +245,7 @@ fn the_pages_grid() {
     assert_eq!(grid.next().unwrap().join(", "), signals);
 
     let lines: Vec<Vec<&str>> = grid.take_while(|line| !line.is_empty()).collect();
-    assert_eq!(lines.len(), 24);
+    assert_eq!(lines.len(), 25);
     let name = |line: &Vec<&str>| line[0].split(' ').nth(1).unwrap().to_string();
     let names: Vec<String> = lines.iter().map(name).collect();
     let (rows, by_hand) = (rows(), by_hand());

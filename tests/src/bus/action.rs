@@ -17,7 +17,7 @@ pub struct Record {
     pub data: u32,
 }
 
-/// One of the ten kinds, with the fields that it names.
+/// One of the twelve kinds, with the fields that it names.
 #[derive(Clone, Copy, PartialEq, Eq, Hash, Debug)]
 pub enum Action {
     Request { node: u8, packet: Packet },
@@ -30,6 +30,8 @@ pub enum Action {
     Grant,
     Gap,
     Reset,
+    Ask { node: u8 },
+    Decide { node: u8 },
 }
 
 impl Record {
@@ -40,7 +42,7 @@ impl Record {
         let bare = Record { kind, ..Record::default() };
         let named = match kind {
             1 => Record { node, address, label, header, data, ..bare },
-            2 | 4 => Record { node, ..bare },
+            2 | 4 | 11 | 12 => Record { node, ..bare },
             3 => Record { node, ack, hold, ..bare },
             7 => Record { address, ..bare },
             5 | 6 | 8 | 9 | 10 => bare,
@@ -75,7 +77,9 @@ impl Record {
             7 => Action::Change { address },
             8 => Action::Grant,
             9 => Action::Gap,
-            _ => Action::Reset,
+            10 => Action::Reset,
+            11 => Action::Ask { node },
+            _ => Action::Decide { node },
         })
     }
 
@@ -139,6 +143,8 @@ impl From<Action> for Record {
             Action::Grant => of(8),
             Action::Gap => of(9),
             Action::Reset => of(10),
+            Action::Ask { node } => Record { node, ..of(11) },
+            Action::Decide { node } => Record { node, ..of(12) },
         }
     }
 }

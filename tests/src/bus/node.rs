@@ -80,6 +80,8 @@ pub enum Mode {
     Spurious,
     /// Acknowledged, and a reply follows.
     Listening,
+    /// (Link1) It has asked for the bus, and was not answered yet.
+    Asked,
 }
 
 /// What a reception does beside the node's mode.
@@ -196,10 +198,16 @@ impl Node {
                 Gap => quiet(Rest),
                 _ => quiet(Wait),
             },
-            // "Sending, Told, Answering, Acking, Holding, Spurious stay on every signal."
-            Owed | Sending { .. } | Told | Answering | Acking { .. } | Holding | Spurious => {
-                quiet(self.mode)
-            }
+            // "Sending, Told, Answering, Acking, Holding, Spurious stay on every signal." "Asked stays
+            // on every signal".
+            Owed
+            | Sending { .. }
+            | Told
+            | Answering
+            | Acking { .. }
+            | Holding
+            | Spurious
+            | Asked => quiet(self.mode),
             // "Listening: Start → Opened, Prefix stay, Gap → Rest, else Wait."
             Listening => match signal {
                 Start => quiet(Opened),

@@ -4,7 +4,7 @@
 pub enum Refusal {
     /// n not 2–63.
     NodeCount = 1,
-    /// Kind not 1–10.
+    /// Kind not 1–12.
     Kind = 2,
     /// A field that the kind doesn't name, or one of the record's zeros, is not 0.
     FieldNotNamed = 3,

@@ -7,10 +7,11 @@ use super::child;
 use super::forward::{self, Choice};
 use super::random::Random;
 use super::tally::Tally;
+use super::walk;
 use super::watch::Watch;
 use super::ways::{Case, Way};
 use super::workers;
-use crate::bus::{Bus, Phase, Record};
+use crate::bus::{Action, Bus, Phase, Record};
 use crate::player;
 
 pub struct Options<'a> {
@@ -98,22 +99,29 @@ fn watch(case: &Case, random: &mut Random, tally: &mut Tally) -> Result<(), Stri
             tally.enter_action(&before, record, reported, &watch.bus);
         }
         if points.contains(&index) {
-            go_on(watch.clone(), random, tally)
+            go_on(&watch, random, tally)
                 .map_err(|why| format!("continuation after action {index}: {why}"))?;
         }
     }
     Ok(())
 }
 
-/// "however these are chosen, one after the other, it is idle after at most" 21n + 2
-fn go_on(mut watch: Watch, random: &mut Random, tally: &mut Tally) -> Result<(), String> {
+/// "however these are chosen, one after the other, it is idle after at most" 22n + 2. Now and then
+/// all nodes that can have asked before.
+fn go_on(watch: &Watch, random: &mut Random, tally: &mut Tally) -> Result<(), String> {
+    let mut watch = watch.clone();
+    if random.percent(50) {
+        for node in 0..watch.bus.n {
+            let _ = watch.step(&Action::Ask { node }.into())?;
+        }
+    }
     let choice = random.pick(&[
         Choice::Longest,
         Choice::Random { faults: 0 },
         Choice::Random { faults: 10 },
         Choice::Random { faults: 50 },
     ]);
-    let most = 21 * usize::from(watch.bus.n) + 2;
+    let most = walk::bound(watch.bus.n) as usize;
     let mut taken: Vec<Record> = Vec::new();
     while watch.bus.phase != Phase::Idle {
         if taken.len() == most {
@@ -131,7 +139,7 @@ fn go_on(mut watch: Watch, random: &mut Random, tally: &mut Tally) -> Result<(),
         }
     }
     tally.continuations += 1;
-    tally.longest_continuations += u64::from(taken.len() == most - 1);
+    tally.longest_continuations += u64::from(taken.len() == most - 2);
     Ok(())
 }
 

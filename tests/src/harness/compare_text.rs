@@ -28,11 +28,12 @@ pub struct Options<'a> {
 /// Listings that end without a refusal.
 const WHOLE: &str = "listing of a whole file, composed again";
 const LABELLED: &str = "listing of a whole file with labels, composed again";
+const DECIDED: &str = "listing of a whole file with ask and decide, composed again";
 
 /// What the texts and files must hit.
 fn all_aims() -> Vec<String> {
     let listed = UNPLAYED.iter().map(|number| format!("listing refused by {number}"));
-    let whole = [WHOLE, LABELLED].map(String::from);
+    let whole = [WHOLE, LABELLED, DECIDED].map(String::from);
     aims::aims().into_iter().chain(listed).chain(whole).collect()
 }
 
@@ -220,8 +221,12 @@ fn one_file(options: &Options, index: u64, path: &Path, hits: &mut Hits) -> Resu
                 return Err(fail(format!("COMPOSE of the listing: {why}")));
             }
             hits.enter(WHOLE);
-            if text.windows(7).any(|part| part == b" label ") {
+            let has = |words: &[u8]| text.windows(words.len()).any(|part| part == words);
+            if has(b" label ") {
                 hits.enter(LABELLED);
+            }
+            if has(b"\nask ") && has(b"\ndecide ") {
+                hits.enter(DECIDED);
             }
         }
     }

@@ -3,13 +3,17 @@
 
 use super::forward::listener;
 use super::random::Random;
-use crate::bus::{Action, Bus, Mode, Outcome, Packet, Phase, Signal, ALL_NODES};
+use crate::bus::{Action, Bus, Mode, Node, Outcome, Packet, Phase, Signal, ALL_NODES};
 
 /// How a run goes, in chances out of a hundred.
 #[derive(Clone, Copy, Debug)]
 pub struct Style {
-    /// A request into a buffer, or an arbitration, whatever the bus is doing.
+    /// A request into a buffer, an arbitration or an asking, whatever the bus is doing.
     pub aside: u64,
+    /// A node asks, where it could arbitrate.
+    pub ask: u64,
+    /// While nodes are Asked, something else than a decision.
+    pub linger: u64,
     /// A Dest changed on its way.
     pub dest_fault: u64,
     /// A Dest that is changed arrives as the receiver's own address.
@@ -30,6 +34,8 @@ impl Style {
     /// Everything now and then: for long runs.
     pub const MIXED: Style = Style {
         aside: 5,
+        ask: 20,
+        linger: 30,
         dest_fault: 1,
         to_receiver: 50,
         fault: 2,
@@ -48,6 +54,8 @@ impl Style {
         };
         Style {
             aside: random.pick(&[0, 2, 10, 30]),
+            ask: random.pick(&[0, 20, 60, 90]),
+            linger: random.pick(&[0, 30, 70, 90]),
             dest_fault: random.pick(&faults),
             to_receiver: random.pick(&[10, 50, 90]),
             fault: random.pick(&faults),
@@ -88,6 +96,9 @@ impl Driver {
     fn propose(&mut self) -> Action {
         if self.random.percent(self.style.aside) {
             return self.aside();
+        }
+        if self.bus.asked().next().is_some() {
+            return self.while_asked();
         }
         match self.bus.phase {
             Phase::Idle => self.on_idle(),
@@ -138,10 +149,42 @@ impl Driver {
     fn aside(&mut self) -> Action {
         let node = self.any_node();
         if self.random.percent(40) {
-            Action::Arbitrate { node }
+            self.arbitrate(node)
         } else {
             self.request(node)
         }
+    }
+
+    /// At once, or by asking.
+    fn arbitrate(&mut self, node: u8) -> Action {
+        if self.random.percent(self.style.ask) {
+            Action::Ask { node }
+        } else {
+            Action::Arbitrate { node }
+        }
+    }
+
+    /// The decision of some node that is Asked, or what is open meanwhile.
+    fn while_asked(&mut self) -> Action {
+        let from = self.any_node();
+        if !self.random.percent(self.style.linger) {
+            let asked = self.from(from, |node| node.mode == Mode::Asked);
+            return asked.map_or(Action::Pass, |node| Action::Decide { node });
+        }
+        let holder = self.bus.pick_holder(self.random.draw());
+        let ready = self.from(from, |node| node.mode == Mode::Rest && node.buffer.is_some());
+        match (self.random.below(4), holder, ready) {
+            (0, Some(node), _) if self.bus.node(node).mode == Mode::Answering => self.respond(node),
+            (0..=1, _, Some(node)) => Action::Ask { node },
+            (2, _, Some(node)) => Action::Arbitrate { node },
+            _ => self.request(from),
+        }
+    }
+
+    /// The first node from this one on whose record is such a one.
+    fn from(&self, from: u8, is: impl Fn(&Node) -> bool) -> Option<u8> {
+        let n = self.bus.n;
+        (0..n).map(|step| (from + step) % n).find(|&node| is(self.bus.node(node)))
     }
 
     fn on_idle(&mut self) -> Action {
@@ -152,7 +195,7 @@ impl Driver {
             .find(|&node| self.bus.node(node).buffer.is_some() && !self.bus.won.has(node));
         let won = self.bus.won.any(n);
         match ready {
-            Some(node) if self.random.percent(80) => Action::Arbitrate { node },
+            Some(node) if self.random.percent(80) => self.arbitrate(node),
             _ if won && self.random.percent(if ready.is_some() { 10 } else { 50 }) => Action::Reset,
             _ => {
                 let node = self.any_node();

@@ -9,9 +9,10 @@ pub fn some_open(bus: &Bus) -> bool {
     likely(bus).iter().any(open) || all_sorts(bus).iter().any(open)
 }
 
-/// One that the phase suggests.
+/// One that the phase suggests; while nodes are Asked, their decisions.
 fn likely(bus: &Bus) -> Vec<Action> {
     match bus.phase {
+        _ if bus.asked().next().is_some() => decisions(bus),
         Phase::Idle => Vec::new(),
         Phase::Delivering { .. } => vec![Action::Pass],
         Phase::Granting => vec![Action::Grant],
@@ -28,15 +29,27 @@ fn likely(bus: &Bus) -> Vec<Action> {
     }
 }
 
+/// Of each node that is Asked.
+fn decisions(bus: &Bus) -> Vec<Action> {
+    bus.asked().map(|node| Action::Decide { node }).collect()
+}
+
 /// One of each kind, at each node.
 fn all_sorts(bus: &Bus) -> Vec<Action> {
-    let mut sorts = vec![Action::Pass, Action::Lose, Action::Grant, Action::Gap];
-    sorts.extend([0, 1, ALL_NODES].map(|address| Action::Change { address }));
+    let mut sorts = of_bus(bus);
     for node in 0..bus.n {
         sorts.push(Action::Request { node, packet: Packet::default() });
         sorts.push(Action::Respond { node, ack: 0, hold: false });
-        sorts.push(Action::Clock { node });
+        sorts.push(Action::Decide { node });
     }
+    sorts
+}
+
+/// Those of kinds 4 to 10.
+pub fn of_bus(bus: &Bus) -> Vec<Action> {
+    let mut sorts = vec![Action::Pass, Action::Lose, Action::Grant, Action::Gap, Action::Reset];
+    sorts.extend([0, 1, ALL_NODES].map(|address| Action::Change { address }));
+    sorts.extend((0..bus.n).map(|node| Action::Clock { node }));
     sorts
 }
 
@@ -54,6 +67,13 @@ pub enum Choice {
 pub fn choose(bus: &Bus, choice: Choice, random: &mut Random) -> Option<Action> {
     let mut choices: Vec<Action> = Vec::new();
     match bus.phase {
+        _ if bus.asked().next().is_some() => {
+            // A respond or a reply need not wait for the decisions.
+            if random.percent(20) {
+                choices.extend(at_holders(bus, choice, random));
+            }
+            choices.extend(in_some_order(decisions(bus), random));
+        }
         Phase::Delivering { signal, receiver, .. } => {
             match choice {
                 Choice::Longest => {
@@ -93,7 +113,7 @@ pub fn listener(bus: &Bus) -> Option<u8> {
 /// What the holders can do, in some order.
 fn at_holders(bus: &Bus, choice: Choice, random: &mut Random) -> Vec<Action> {
     let longest = matches!(choice, Choice::Longest);
-    let mut actions: Vec<Action> = bus
+    let actions: Vec<Action> = bus
         .holder
         .nodes(bus.n)
         .map(|node| match bus.node(node).mode {
@@ -113,6 +133,11 @@ fn at_holders(bus: &Bus, choice: Choice, random: &mut Random) -> Vec<Action> {
             _ => Action::Clock { node },
         })
         .collect();
+    in_some_order(actions, random)
+}
+
+/// The same, from another one on.
+fn in_some_order(mut actions: Vec<Action>, random: &mut Random) -> Vec<Action> {
     if !actions.is_empty() {
         let turn = random.below(actions.len() as u64) as usize;
         actions.rotate_left(turn);

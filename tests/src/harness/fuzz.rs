@@ -81,7 +81,7 @@ fn sealed_noise(random: &mut Random) -> Vec<u8> {
         let records: Vec<Record> = (0..count)
             .map(|_| {
                 let mut bytes = [0; 16];
-                bytes[0] = random.byte(0, 11);
+                bytes[0] = random.byte(0, 13);
                 for _ in 0..random.below(4) {
                     bytes[random.between(1, 15) as usize] = random.below(70) as u8;
                 }

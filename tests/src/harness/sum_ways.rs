@@ -3,7 +3,7 @@
 
 use super::fuzz;
 use super::random::Random;
-use super::ways::{self, End, Way};
+use super::ways::{self, End, Way, KINDS};
 use crate::bus::{Record, ALL_NODES};
 use crate::runfile::{FIRST_ACTION, FULL, RECORD};
 
@@ -78,7 +78,7 @@ impl SumWay {
         ways.extend([1, 2, 3, 30, 31, 32, 61, 62, 63, 93, 8000].map(SumWay::Right));
         ways.extend([1, 2, 31, 62].map(SumWay::Largest));
         for count in [1, 2, 16, 30, 31] {
-            ways.extend([0, 1, 5, 254, 255].map(|byte| SumWay::Filled { count, byte }));
+            ways.extend([0, 1, 5, 12, 13, 254, 255].map(|byte| SumWay::Filled { count, byte }));
         }
         ways.extend([0, 1, 60_001, MODULUS - 1].map(SumWay::Reaching));
         ways
@@ -125,7 +125,7 @@ fn has_wrong_action(way: Way) -> bool {
 /// Actions of all kinds with right fields; nearly all are closed.
 fn right_records(random: &mut Random, n: u8, count: usize) -> Vec<Record> {
     let one = |_| {
-        let kind = random.byte(1, 10);
+        let kind = random.byte(1, KINDS);
         ways::right_record(random, n, kind)
     };
     (0..count).map(one).collect()
@@ -168,7 +168,7 @@ fn filled(random: &mut Random, count: usize, byte: u8) -> (Vec<u8>, End) {
     let accepted = records.len();
     records.extend(vec![Record::from_bytes(&[byte; RECORD]); count]);
     // No kind, or one that does not name all fields.
-    let number = if (1..=10).contains(&byte) { 3 } else { 2 };
+    let number = if (1..=KINDS).contains(&byte) { 3 } else { 2 };
     (ways::file(n, &records), End::Refused { accepted, number })
 }
 

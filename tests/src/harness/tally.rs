@@ -1,10 +1,9 @@
 //! What a series of runs has hit, and how often.
 
-use std::collections::BTreeMap;
 use std::fmt::Write;
 
 use super::forward::listener;
-use super::ways::Way;
+use super::ways::{phase_name, Way, KINDS};
 use super::workers::Merge;
 use crate::bus::{
     Action, Bus, Check, Mode, Phase, Reading, Record, Report, Reported, Signal, ALL_NODES,
@@ -78,7 +77,7 @@ fn cell_name(place: usize, class: usize) -> String {
     format!("{} on {}", MODES[place].0, CLASSES[class])
 }
 
-const EVENTS: [&str; 49] = [
+const EVENTS: [&str; 73] = [
     "Dest changed",
     "Header lost",
     "Header changed",
@@ -128,9 +127,33 @@ const EVENTS: [&str; 49] = [
     "reply dropped by a misled node",
     "reply dropped by one of all nodes",
     "acknowledgement dropped by a third node",
+    "asked on Idle",
+    "asked on Busy",
+    "asked on Delivering",
+    "asked on Granting",
+    "asked on Gapping",
+    "decided on Idle",
+    "decided on Busy",
+    "decided on Delivering",
+    "decided on Granting",
+    "decided on Gapping",
+    "won by deciding",
+    "lost by deciding, bus not idle",
+    "lost by deciding, won mark",
+    "decided before a lower node that is Asked",
+    "decided before a higher node that is Asked",
+    "several nodes Asked",
+    "idle bus with a node that is Asked",
+    "request into a buffer while a node is Asked",
+    "arbitrate won while a node is Asked",
+    "arbitrate lost while a node is Asked",
+    "respond while a node is Asked",
+    "ask while another node is Asked",
+    "decide won while another node is Asked",
+    "decide lost while another node is Asked",
 ];
 
-/// The cells of the reception chart (mode and signal, 336 of them) that were met.
+/// The cells of the reception chart (mode and signal, 350 of them) that were met.
 #[derive(Clone)]
 pub struct Cells([[bool; CLASSES.len()]; MODES.len()]);
 
@@ -230,7 +253,7 @@ pub struct Tally {
     pub bytes_compared: u64,
     /// Continuations of forward actions that were followed until idle.
     pub continuations: u64,
-    /// Those that took all but one of the 21n + 2.
+    /// Those that took 22n, the most that there are.
     pub longest_continuations: u64,
     refusals: Counts,
     reports: Counts,
@@ -257,7 +280,7 @@ impl Tally {
             labels: Counts::new("labels reported", labelled()),
             dropped: Counts::new("drops by name", DROPPED.map(Reading::name)),
             drops: Counts::new("drops by cell", DROPS),
-            kinds: Counts::new("kinds accepted", 1..=10),
+            kinds: Counts::new("kinds accepted", 1..=KINDS),
             modes: Counts::new("node modes entered", MODES.map(|(name, _)| name)),
             events: Counts::new("events", EVENTS),
             ways: Counts::new("ways", Way::all()),
@@ -317,8 +340,17 @@ impl Tally {
             for event in [event, of_reply, of_labels, of_drops].into_iter().flatten() {
                 self.events.enter(event);
             }
-            if after.holder.nodes(after.n).nth(1).is_some() {
-                self.events.enter("several holders");
+            for event in events_of_asking(before, action, reported) {
+                self.events.enter(&event);
+            }
+            let asked = after.asked().count();
+            let states = [
+                (after.holder.nodes(after.n).nth(1).is_some(), "several holders"),
+                (asked > 1, "several nodes Asked"),
+                (asked > 0 && after.phase == Phase::Idle, "idle bus with a node that is Asked"),
+            ];
+            for (_, event) in states.into_iter().filter(|(hit, _)| *hit) {
+                self.events.enter(event);
             }
         }
     }
@@ -362,10 +394,10 @@ impl Tally {
             counts.print(&mut text);
         }
         self.print_ways(&mut text);
-        let _ = writeln!(text, "cells of the reception chart met: {} of 336", self.cells.count());
+        let _ = writeln!(text, "cells of the reception chart met: {} of 350", self.cells.count());
         let _ = writeln!(
             text,
-            "{} files, {} actions accepted, {} bytes of text equal; {} continuations idle within 21n + 2, {} of them after 21n + 1",
+            "{} files, {} actions accepted, {} bytes of text equal; {} continuations idle within 22n + 2, {} of them after 22n",
             self.files, self.actions, self.bytes_compared, self.continuations, self.longest_continuations
         );
         text
@@ -373,15 +405,21 @@ impl Tally {
 }
 
 impl Tally {
-    /// The ways by the refusal that they aim at: how many there are, and how many files of each.
+    /// The ways by what they aim at: how many there are, and how many files of each.
     fn print_ways(&self, text: &mut String) {
-        let mut groups: BTreeMap<&'static str, (u64, u64, u64)> = BTreeMap::new();
+        let mut groups: Vec<(String, Vec<u64>)> = Vec::new();
         for (way, &hits) in Way::all().into_iter().zip(&self.ways.hits) {
-            let group = groups.entry(way.aim()).or_insert((0, u64::MAX, 0));
-            *group = (group.0 + 1, group.1.min(hits), group.2.max(hits));
+            let aim = way.aim();
+            match groups.iter_mut().find(|(known, _)| *known == aim) {
+                Some((_, files)) => files.push(hits),
+                None => groups.push((aim, vec![hits])),
+            }
         }
         let _ = writeln!(text, "ways of making a file:");
-        for (aim, (ways, least, most)) in groups {
+        for (aim, files) in groups {
+            let ways = files.len();
+            let (least, most) =
+                (files.iter().min().unwrap_or(&0), files.iter().max().unwrap_or(&0));
             let _ = writeln!(text, "  {ways:>9}  {aim}: {least} to {most} files each");
         }
     }
@@ -537,6 +575,46 @@ fn event_of_drops(bus: &Bus, reported: Option<Reported>) -> Option<&'static str>
         _ => "dropped by the addressed node",
     };
     Some(event)
+}
+
+/// What it calls the same action where a node asks or is decided, or another one is Asked.
+fn events_of_asking(bus: &Bus, action: Action, reported: Option<Reported>) -> Vec<String> {
+    let phase = phase_name(bus.phase);
+    let won = reported.is_some_and(|reported| reported.report == Report::Won);
+    let outcome = if won { "won" } else { "lost" };
+    let mut events = Vec::new();
+    match action {
+        Action::Ask { .. } => events.push(format!("asked on {phase}")),
+        Action::Decide { node } => {
+            events.push(format!("decided on {phase}"));
+            events.push(match (won, bus.phase) {
+                (true, _) => "won by deciding".into(),
+                (false, Phase::Idle) => "lost by deciding, won mark".into(),
+                (false, _) => "lost by deciding, bus not idle".into(),
+            });
+            if bus.asked().any(|other| other < node) {
+                events.push("decided before a lower node that is Asked".into());
+            }
+            if bus.asked().any(|other| other > node) {
+                events.push("decided before a higher node that is Asked".into());
+            }
+        }
+        _ => (),
+    }
+    let alone = match action {
+        Action::Decide { node } => bus.asked().all(|asked| asked == node),
+        _ => bus.asked().next().is_none(),
+    };
+    if !alone {
+        events.push(match action {
+            Action::Request { .. } => "request into a buffer while a node is Asked".into(),
+            Action::Arbitrate { .. } => format!("arbitrate {outcome} while a node is Asked"),
+            Action::Respond { .. } => "respond while a node is Asked".into(),
+            Action::Ask { .. } => "ask while another node is Asked".into(),
+            _ => format!("decide {outcome} while another node is Asked"),
+        });
+    }
+    events
 }
 
 /// The number in a last line `refused COUNT NUMBER`.

@@ -6,7 +6,7 @@ mod spelling;
 mod wrong;
 
 use super::random::Random;
-use super::ways;
+use super::ways::{self, names, Field, KINDS};
 use crate::bus::{Record, ALL_NODES};
 use crate::notation::{self, Fault, Line, MARK};
 use crate::runfile::{BLOCK, FULL};
@@ -176,7 +176,7 @@ impl<'a> Writer<'a> {
     }
 
     fn record(&mut self) -> Record {
-        let kind = self.random.byte(1, 10);
+        let kind = self.random.byte(1, KINDS);
         ways::right_record(self.random, self.n, kind)
     }
 
@@ -191,7 +191,7 @@ impl<'a> Writer<'a> {
     fn spell(&mut self, record: Record) -> Vec<(Slot, Word)> {
         let Record { kind, node, address, ack, hold, label, header, data, .. } = record;
         let mut words = vec![(Slot::Name, NAMES[usize::from(kind)].into())];
-        if (1..=4).contains(&kind) {
+        if names(kind, Field::Node) {
             words.push((Slot::Byte, self.number(node.into())));
         }
         if kind == 1 || kind == 7 && (address != 0 || self.free && self.random.percent(50)) {

@@ -1,10 +1,14 @@
 //! `model walk`: one transaction from a fresh bus and the reply to it, walked through whole. Node 0
 //! has a request to each possible address and wins; then every interleaving of all open actions of
-//! kinds 3 to 9 and of some requests from Holding. The other nodes have requests waiting.
+//! kinds 3 to 9, 11 and 12 and of some requests from Holding. The other nodes have requests waiting,
+//! with which they ask and are decided at every point; node 0's has left its buffer. Idle ends the
+//! walk: what is asked and decided there begins the next transaction.
 
-use std::collections::HashMap;
+use std::collections::{BTreeSet, HashMap};
 
+use super::asking;
 use super::tally::{Cells, DROPS};
+use super::ways::{kept_closed, KEPT_CLOSED};
 use crate::bus::{
     Action, Bus, Head, Marks, Mode, Node, Packet, Phase, Report, Reported, ALL_NODES,
 };
@@ -53,6 +57,8 @@ impl Reached {
         };
         match reported {
             Some(Reported { node, report: Report::Drop { .. } }) => next.enter_drop(node),
+            // The bus is not idle: whoever is decided loses.
+            Some(Reported { report: Report::Lost, .. }) => (),
             Some(reported) => self.look_at_report(reported)?,
             None => (),
         }
@@ -101,7 +107,7 @@ impl Reached {
         } else if bus.phase == Phase::Idle && bus.concatenated {
             Err(format!("idle, and the mark of a reply to follow is set: {bus:?}"))
         } else {
-            Ok(())
+            (0..usize::from(bus.n)).try_for_each(|turn| asking::look(bus, turn))
         }
     }
 }
@@ -142,9 +148,12 @@ enum Known {
 #[derive(Default)]
 struct Walk {
     known: HashMap<Key, Known>,
-    /// States behind filler clocks, to be walked from on their own.
-    behind_fillers: Vec<Reached>,
+    /// States behind filler clocks and asks, to be walked from on their own.
+    behind_others: Vec<Reached>,
     cells: Cells,
+    /// The most nodes that were Asked at once, and what was open but for them.
+    most_asked: usize,
+    kept_closed: BTreeSet<String>,
 }
 
 /// The requests from Holding that are tried: to each address, and a second packet to the last.
@@ -161,13 +170,16 @@ fn addresses(n: u8) -> impl Iterator<Item = u8> {
     (0..n).chain([ALL_NODES])
 }
 
-/// All actions of kinds 3 to 9, and some requests.
+/// All actions of kinds 3 to 9, 11 and 12, and some requests; on an idle bus no ask.
 fn candidates(bus: &Bus) -> Vec<Action> {
     let n = bus.n;
     let mut actions = vec![Action::Pass, Action::Lose, Action::Grant, Action::Gap];
     actions.extend(addresses(n).map(|address| Action::Change { address }));
     for node in 0..n {
-        actions.push(Action::Clock { node });
+        actions.extend([Action::Clock { node }, Action::Decide { node }]);
+        if bus.phase != Phase::Idle {
+            actions.push(Action::Ask { node });
+        }
         for ack in 0..16 {
             actions.extend([false, true].map(|hold| Action::Respond { node, ack, hold }));
         }
@@ -190,6 +202,8 @@ impl Walk {
             None => (),
         }
         reached.look()?;
+        self.most_asked = self.most_asked.max(bus.asked().count());
+        self.kept_closed.extend(kept_closed(bus).into_iter().map(|(name, _)| name));
         self.known.insert(Key::of(reached), Known::Open);
         let mut longest = None;
         for action in candidates(bus) {
@@ -201,7 +215,7 @@ impl Walk {
                 let length = 1 + self.longest(&next)?;
                 longest = longest.max(Some(length));
             } else if !self.known.contains_key(&Key::of(&next)) {
-                self.behind_fillers.push(next);
+                self.behind_others.push(next);
             }
         }
         let length = match (longest, bus.phase) {
@@ -216,16 +230,17 @@ impl Walk {
     /// The longest way from any state reached.
     fn over_all(&mut self, root: Reached) -> Result<u32, String> {
         let mut longest = 0;
-        self.behind_fillers.push(root);
-        while let Some(reached) = self.behind_fillers.pop() {
+        self.behind_others.push(root);
+        while let Some(reached) = self.behind_others.pop() {
             longest = longest.max(self.longest(&reached)?);
         }
         Ok(longest)
     }
 }
 
-/// Walks from node 0's request to this address: how many states, the longest way, the cells met.
-fn transaction(n: u8, address: u8) -> Result<(usize, u32, Cells), String> {
+/// Node 0 has won with a request to this address, and requests wait at the other nodes. A win by
+/// arbitrate and one by decide leave the same state, whoever is Asked or asks afterwards.
+fn after_win(n: u8, address: u8) -> Result<Reached, String> {
     let mut bus = Bus::fresh(n).map_err(|refusal| format!("n refused: {}", refusal.number()))?;
     let request = Packet { address, ..REQUEST };
     for node in 0..n {
@@ -234,39 +249,70 @@ fn transaction(n: u8, address: u8) -> Result<(usize, u32, Cells), String> {
             return Err(format!("node {node}: a fresh bus does not take its request"));
         }
     }
+    asking::does_both(&bus, 0).unwrap_or(Err("arbitrate is not open".into()))?;
     let won = bus.act(Action::Arbitrate { node: 0 });
     if won != Ok(Some(Reported { node: 0, report: Report::Won })) {
         return Err("node 0 did not win a fresh bus".into());
     }
-    let mut walk = Walk::default();
-    let longest = walk.over_all(Reached { bus, request: Started::new(0, request), reply: None })?;
-    Ok((walk.known.len(), longest, walk.cells))
+    Ok(Reached { bus, request: Started::new(0, request), reply: None })
+}
+
+/// "n is added to the bound", which was 21n + 2.
+pub fn bound(n: u8) -> u32 {
+    22 * u32::from(n) + 2
+}
+
+/// The longest way there is. It begins with the win: if the n − 1 other nodes have asked by then, their
+/// decisions come first, since nothing of the packet goes out before them. Without asking it is 21n +
+/// 1 (the packet 6n, the acknowledgement 3n, the reply 6n, its acknowledgement 3n, the gaps n; n − 1
+/// nodes took the packet for theirs, so n − 1 grants and n − 2 clocks of Spurious nodes; the reply's
+/// grant, two responds and the request from Holding). Together that is 22n. Later in the transaction
+/// fewer nodes are in Rest, and nobody asks by a forward action.
+fn expected_longest(n: u8) -> u32 {
+    22 * u32::from(n)
 }
 
 pub fn walk(n: u8) -> Result<String, String> {
     let mut text = String::new();
-    let (mut states, mut longest, mut cells) = (0, 0, Cells::default());
+    let (mut walk, mut longest) = (Walk::default(), 0);
     for address in addresses(n) {
-        let (some, length, met) = transaction(n, address)?;
-        text += &format!("n = {n}, 0 to {address}: {some} states, longest way to Idle {length}\n");
-        states += some;
+        let before = walk.known.len();
+        let length = walk.over_all(after_win(n, address)?)?;
+        let states = walk.known.len() - before;
+        text +=
+            &format!("n = {n}, 0 to {address}: {states} states, longest way to Idle {length}\n");
         longest = longest.max(length);
-        cells.merge(&met);
     }
-    let drops = cells.drops();
+    let drops = walk.cells.drops();
+    let (bound, expected) = (bound(n), expected_longest(n));
     text += &format!(
-        "n = {n}: {states} states, {} of 336 cells met, {} of them drops, no dead end, longest way of forward actions to Idle {longest}\n",
-        cells.count(),
+        "n = {n}: {} states, up to {} nodes Asked, {} of 350 cells met, {} of them drops, no dead end, longest way of forward actions to Idle {longest}, bound {bound}\n",
+        walk.known.len(),
+        walk.most_asked,
+        walk.cells.count(),
         drops.len()
     );
-    let expected = 21 * u32::from(n) + 1;
-    if longest != expected {
-        Err(format!("{text}n = {n}: the longest way is not 21n + 1 = {expected}"))
+    if longest != expected || longest > bound {
+        Err(format!("{text}n = {n}: the longest way is not 22n = {expected}"))
+    } else if (longest > 21 * u32::from(n) + 2) != (n > 2) {
+        Err(format!("{text}n = {n}: 21n + 2 would do from n = 3 on, or not for n = 2"))
+    } else if walk.most_asked != usize::from(n) - 1 {
+        Err(format!("{text}n = {n}: the other nodes were not Asked all at once"))
+    } else if walk.kept_closed != expected_kept_closed(n) {
+        Err(format!("{text}n = {n}: Asked nodes keep closed: {:?}", walk.kept_closed))
     } else if drops != expected_drops(n) {
         Err(format!("{text}n = {n}: the drops are {drops:?}"))
     } else {
         Ok(text)
     }
+}
+
+/// All that runs meet, but for the reset, which needs an idle bus. With two nodes there is no third to
+/// ask while one of them answers the other.
+fn expected_kept_closed(n: u8) -> BTreeSet<String> {
+    let answering = ["clock in Answering", "clock in Acking", "pass of Prefix"];
+    let names = KEPT_CLOSED.iter().filter(|&name| *name != "reset");
+    names.filter(|name| n > 2 || !answering.contains(name)).map(|name| name.to_string()).collect()
 }
 
 /// All that runs meet; with two nodes there is no third that overhears an acknowledgement.

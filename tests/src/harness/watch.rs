@@ -1,6 +1,6 @@
 //! Demand 3 watched on a run, by books kept straight from "The words of demand 3".
 
-use super::forward;
+use super::{asking, forward};
 use crate::bus::{
     Action, Bus, Mode, Outcome, Packet, Phase, Reading, Record, Refusal, Report, Reported, Signal,
 };
@@ -228,6 +228,7 @@ impl Watch {
 
     /// What holds after each action, and of a fresh bus.
     pub fn look(&self) -> Result<(), Violation> {
+        asking::look(&self.bus, self.when)?;
         // "until then the buffer holds its address, header and data", and its label with them
         for (node, books) in (0..self.bus.n).zip(&self.books) {
             if books.waiting.is_some() && self.bus.node(node).buffer != books.waiting {
@@ -255,7 +256,8 @@ impl Watch {
             return Err("idle, and the mark of a reply to follow is set".into());
         }
         for (node, books) in (0..self.bus.n).zip(&self.books) {
-            if self.bus.node(node).mode != Mode::Rest {
+            // "an Idle bus may have nodes in Rest or Asked"
+            if !matches!(self.bus.node(node).mode, Mode::Rest | Mode::Asked) {
                 return Err(format!("idle, and node {node} does not rest"));
             }
             if books.unsettled || books.last.is_some_and(|last| last.confirmations != 1) {

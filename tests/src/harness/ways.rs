@@ -10,11 +10,14 @@ use super::driver::{Driver, Style};
 use super::random::Random;
 use crate::bus::{Action, Bus, Packet, Record, ALL_NODES};
 use crate::runfile::{self, BLOCK, FULL};
-pub use closed::Closed;
+pub use closed::{kept_closed, phase_name, Closed, KEPT_CLOSED};
 pub use damage::Damage;
 
 /// Numbers that can end a file whose actions are looked at and not played.
 pub const UNPLAYED: [u8; 11] = [1, 2, 3, 4, 5, 6, 8, 9, 10, 11, 13];
+
+/// "Number 2 now means a kind not 1–12."
+pub const KINDS: u8 = 12;
 
 /// A file, the list of actions behind it, and how it must end.
 pub struct Case {
@@ -89,9 +92,9 @@ const FIELDS: [Field; 9] = [
 ];
 
 /// Does the kind name the field?
-fn names(kind: u8, field: Field) -> bool {
+pub(super) fn names(kind: u8, field: Field) -> bool {
     match field {
-        Field::Node => (1..=4).contains(&kind),
+        Field::Node => matches!(kind, 1..=4 | 11 | 12),
         Field::Address => kind == 1 || kind == 7,
         Field::Ack | Field::Hold => kind == 3,
         Field::Label | Field::Header | Field::Data => kind == 1,
@@ -141,12 +144,12 @@ impl Way {
     pub fn all() -> Vec<Way> {
         let mut ways = vec![Way::Open];
         ways.extend([1, 2, 30, 31, 32, 61, 62, 63, 93, 94].map(Way::OpenOf));
-        ways.extend([0, 11, 12, 128, 255].map(Way::Kind));
-        for kind in 1..=10 {
+        ways.extend([0, 13, 14, 128, 255].map(Way::Kind));
+        for kind in 1..=KINDS {
             let fields = FIELDS.into_iter().filter(|&field| !names(kind, field));
             ways.extend(fields.map(|field| Way::NotNamed { kind, field }));
         }
-        ways.extend([1, 2, 3, 4].map(|kind| Way::NodeTooHigh { kind }));
+        ways.extend([1, 2, 3, 4, 11, 12].map(|kind| Way::NodeTooHigh { kind }));
         ways.extend([1, 7].map(|kind| Way::NoAddress { kind }));
         ways.extend([64, 65, 127, 128, 255].map(Way::Label));
         ways.extend([16, 17, 128, 255].map(Way::Ack));
@@ -157,18 +160,18 @@ impl Way {
     }
 
     /// What a file made in this way aims at.
-    pub fn aim(self) -> &'static str {
+    pub fn aim(self) -> String {
         match self {
-            Way::Open => "runs of open actions",
-            Way::OpenOf(_) => "runs of open actions, block boundaries",
-            Way::Kind(_) => "refusal 2",
-            Way::NotNamed { .. } => "refusal 3",
-            Way::NodeTooHigh { .. } => "refusal 4",
-            Way::NoAddress { .. } => "refusal 5",
-            Way::Label(_) => "refusal 13",
-            Way::Ack(_) | Way::Hold(_) => "refusal 6",
-            Way::Closed(_) => "refusal 7",
-            Way::Damaged(_) => "damaged files",
+            Way::Open => "runs of open actions".into(),
+            Way::OpenOf(_) => "runs of open actions, block boundaries".into(),
+            Way::Kind(kind) => format!("refusal 2, kind {kind}"),
+            Way::NotNamed { kind, .. } => format!("refusal 3, kind {kind}"),
+            Way::NodeTooHigh { kind } => format!("refusal 4, kind {kind}"),
+            Way::NoAddress { kind } => format!("refusal 5, kind {kind}"),
+            Way::Label(_) => "refusal 13".into(),
+            Way::Ack(_) | Way::Hold(_) => "refusal 6".into(),
+            Way::Closed(closed) => format!("refusal 7, {}", closed.aim()),
+            Way::Damaged(_) => "damaged files".into(),
         }
     }
 
@@ -308,12 +311,14 @@ fn right_action(random: &mut Random, kind: u8, node: u8, packet: Packet) -> Acti
         7 => Action::Change { address: random.pick(&[0, packet.address]) },
         8 => Action::Grant,
         9 => Action::Gap,
-        _ => Action::Reset,
+        10 => Action::Reset,
+        11 => Action::Ask { node },
+        _ => Action::Decide { node },
     }
 }
 
 fn any_record(random: &mut Random, n: u8) -> Record {
-    let kind = random.byte(1, 10);
+    let kind = random.byte(1, KINDS);
     let mut record = right_record(random, n, kind);
     for field in FIELDS {
         if random.percent(30) {

@@ -1,5 +1,5 @@
-//! "What a node does with a signal", written by hand from the rows of document 01 and from requests 1
-//! and 4.
+//! "What a node does with a signal", written by hand from the rows of document 01 and from requests 1,
+//! 4 and 6.
 
 use super::packet;
 use bench_model::bus::{Check, Head, Mode, Node, Reading, Report, Signal};
@@ -31,6 +31,7 @@ Acking    . . . . . . . . . . . . . .
 Holding   . . . . . . . . . . . . . .
 Spurious  . . . . . . . . . . . . . .
 Listening Opened Wait . Rest Wait Wait Wait Wait Wait Wait Wait Wait Wait Wait
+Asked     . . . . . . . . . . . . . .
 ";
 
 /// What stands in a cell: the next mode's name, the report's word, whether the node is entered as
@@ -45,10 +46,10 @@ pub struct Answer {
 /// A mode's line: its name and its 14 cells.
 pub type Row = (&'static str, Vec<Answer>);
 
-/// The table, 24 lines.
+/// The table, 25 lines.
 pub fn rows() -> Vec<Row> {
     let rows: Vec<Row> = TABLE.lines().filter(|line| !line.is_empty()).map(row).collect();
-    assert_eq!(rows.len(), 24);
+    assert_eq!(rows.len(), 25);
     rows
 }
 
@@ -175,6 +176,7 @@ impl Receiver {
             "Holding" => Mode::Holding,
             "Spurious" => Mode::Spurious,
             "Listening" => Mode::Listening,
+            "Asked" => Mode::Asked,
             _ => panic!("{name} is no mode"),
         }
     }

@@ -32,6 +32,14 @@ pub fn clock(node: u8) -> Record {
     Action::Clock { node }.into()
 }
 
+pub fn ask(node: u8) -> Record {
+    Record { kind: 11, node, ..Record::default() }
+}
+
+pub fn decide(node: u8) -> Record {
+    Record { kind: 12, node, ..Record::default() }
+}
+
 pub fn change(address: u8) -> Record {
     Action::Change { address }.into()
 }

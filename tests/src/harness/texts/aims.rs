@@ -26,9 +26,11 @@ const FAULTS: [Fault; 15] = [
 ];
 
 /// THE FIELD; the last one may lack.
-const FIELDS: [&str; 12] = [
+const FIELDS: [&str; 14] = [
     "the node of clock",
     "the node of arbitrate",
+    "the node of ask",
+    "the node of decide",
     "the node of request",
     "the address of request",
     "the header of request",
@@ -50,7 +52,7 @@ const HINTS: [&str; 3] = [
 /// Each fault with what its cause says of a field or of a word.
 fn causes() -> impl Iterator<Item = (Fault, &'static str)> {
     let of = |fault| move |&part: &&'static str| (fault, part);
-    let missing = FIELDS[..11].iter().map(of(Fault::MissingField));
+    let missing = FIELDS[..13].iter().map(of(Fault::MissingField));
     let not = FIELDS.iter().chain(&HINTS).map(of(Fault::NotANumber));
     let large = FIELDS.iter().map(of(Fault::TooLarge));
     let unknown = HINTS.iter().map(of(Fault::UnknownWord));

@@ -4,7 +4,7 @@ use crate::harness::random::Random;
 use crate::notation::LONGEST_LINE;
 
 /// The first words of lines: `nodes`, then the action of each kind.
-pub const NAMES: [&str; 11] = [
+pub const NAMES: [&str; 13] = [
     "nodes",
     "request",
     "arbitrate",
@@ -16,6 +16,8 @@ pub const NAMES: [&str; 11] = [
     "grant",
     "gap",
     "reset",
+    "ask",
+    "decide",
 ];
 
 /// A word of a text: any bytes.

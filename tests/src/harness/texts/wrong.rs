@@ -7,7 +7,7 @@ use super::spelling::{
 use super::{Expected, TextCase, Writer};
 use crate::bus::Record;
 use crate::harness::random::Random;
-use crate::harness::ways;
+use crate::harness::ways::{self, KINDS};
 use crate::notation::{Fault, LONGEST_LINE, MARK};
 
 /// A line with something wrong in it.
@@ -52,11 +52,11 @@ impl Wrong {
         all.extend([256, 257, 258, 511, 512, 513, 5000, 70_000].map(Wrong::Long));
         all.extend([Wrong::SecondMark, Wrong::HalfMark, Wrong::MarkInside, Wrong::MarkInside]);
         // Kinds with fields, once for each; `change` has none that can be missing.
-        all.extend([0, 1, 1, 1, 1, 1, 2, 3, 3, 4].map(Wrong::Missing));
-        all.extend([0, 1, 1, 1, 1, 1, 2, 3, 3, 4, 7].map(Wrong::NotANumber));
-        all.extend([0, 1, 1, 1, 1, 1, 2, 3, 3, 4, 7].map(Wrong::TooLarge));
-        all.extend([0, 1, 1, 2, 3, 4, 5, 6, 7, 8, 9, 10].map(Wrong::Extra));
-        all.extend([0, 2, 3, 4, 5, 6, 7, 8, 9, 10].map(Wrong::LabelOfOther));
+        all.extend([0, 1, 1, 1, 1, 1, 2, 3, 3, 4, 11, 12].map(Wrong::Missing));
+        all.extend([0, 1, 1, 1, 1, 1, 2, 3, 3, 4, 7, 11, 12].map(Wrong::NotANumber));
+        all.extend([0, 1, 1, 1, 1, 1, 2, 3, 3, 4, 7, 11, 12].map(Wrong::TooLarge));
+        all.extend([0, 1, 1, 2, 3, 4, 5, 6, 7, 8, 9, 10, 11, 12].map(Wrong::Extra));
+        all.extend([0, 2, 3, 4, 5, 6, 7, 8, 9, 10, 11, 12].map(Wrong::LabelOfOther));
         all.extend([
             Wrong::LabelForField,
             Wrong::SecondLabel,
@@ -69,7 +69,7 @@ impl Wrong {
             Wrong::SecondNodes,
         ]);
         all.extend([0, 1, 64, 65, 128, 255].map(Wrong::Nodes));
-        all.extend([1, 2, 3, 4].map(Wrong::Node));
+        all.extend([1, 2, 3, 4, 11, 12].map(Wrong::Node));
         all.extend([1, 7].map(Wrong::Address));
         all.extend([64, 65, 128, 255].map(Wrong::Label));
         all.extend([16, 17, 255].map(Wrong::Ack));
@@ -235,7 +235,7 @@ fn wrong_words(writer: &mut Writer, wrong: Wrong) -> (Vec<Word>, Fault) {
             (words, Fault::UnknownWord)
         }
         Wrong::MarkInside => {
-            let kind = writer.random.pick(&[1, 2, 3, 4, 5, 7]);
+            let kind = writer.random.pick(&[1, 2, 3, 4, 5, 7, 11, 12]);
             let words = right_words(writer, kind);
             let mut places = places(&words);
             places.push(0);
@@ -297,7 +297,7 @@ fn wrong_words(writer: &mut Writer, wrong: Wrong) -> (Vec<Word>, Fault) {
             (repeat(writer, Some(count)), Fault::RepeatOfZero)
         }
         Wrong::ActionBeforeNodes => {
-            let kind = writer.random.byte(1, 10);
+            let kind = writer.random.byte(1, KINDS);
             (bare(right_words(writer, kind)), Fault::NoNodesLine)
         }
         Wrong::SecondNodes => {
@@ -373,7 +373,7 @@ fn extra(writer: &mut Writer, kind: u8) -> Vec<Word> {
 
 /// A right action with `*` and this in the place of the count.
 fn repeat(writer: &mut Writer, count: Option<Word>) -> Vec<Word> {
-    let kind = writer.random.byte(1, 10);
+    let kind = writer.random.byte(1, KINDS);
     let mut words = bare(right_words(writer, kind));
     words.push(b"*".to_vec());
     if let Some(count) = count {

@@ -3,7 +3,9 @@
 use super::{file, nodes, right_action, Case, End};
 use crate::bus::{Action, Bus, Mode, Phase, Record, Signal, ALL_NODES};
 use crate::harness::driver::{Driver, Style};
+use crate::harness::forward;
 use crate::harness::random::Random;
+use crate::table::{place, MODES};
 
 /// Why an action is not open.
 #[derive(Clone, Copy, PartialEq, Eq, Debug)]
@@ -27,11 +29,91 @@ pub enum Closed {
     ChangeToOwnAddress,
     ChangeNotZero(&'static str),
     ResetNoneWon,
+    RequestAsked,
+    ArbitrateAsked,
+    AskBufferEmpty,
+    AskAsked,
+    AskOtherMode,
+    DecideInRest,
+    DecideOtherMode,
+    /// It would be open if the nodes that are Asked were in Rest.
+    WhileAsked {
+        what: &'static str,
+        who: Who,
+    },
+}
+
+/// The nodes that are Asked.
+#[derive(Clone, Copy, PartialEq, Eq, Debug)]
+pub enum Who {
+    /// Node 0 alone.
+    First,
+    /// Node n − 1 alone.
+    Last,
+    Several,
+}
+
+impl Who {
+    /// Those of them that ask now, if they can, and the bus then.
+    fn ask(self, bus: &Bus) -> Option<(Vec<Action>, Bus)> {
+        let mut bus = bus.clone();
+        let nodes = match self {
+            Who::First => 0..1,
+            Who::Last => bus.n - 1..bus.n,
+            Who::Several => 0..bus.n,
+        };
+        let asks = nodes.map(|node| Action::Ask { node });
+        let asks: Vec<Action> = asks.filter(|&ask| bus.act(ask).is_ok()).collect();
+        let asked = bus.asked().count();
+        let they = if self == Who::Several { asked > 1 } else { asks.len() == 1 && asked == 1 };
+        they.then_some((asks, bus))
+    }
+}
+
+/// What a node that is Asked keeps closed in runs from a fresh bus. Nothing else: from the Dhead of a
+/// packet on, and from the Ack of an acknowledgement on, up to the End, no node is in Rest, and
+/// before that a node that is Asked does not let the Start go out. So there is no lose and no change
+/// among them, and no clock in Holding.
+pub const KEPT_CLOSED: [&str; 10] = [
+    "clock in Sending",
+    "clock in Answering",
+    "clock in Acking",
+    "clock in Spurious",
+    "pass of Start",
+    "pass of End",
+    "pass of Prefix",
+    "grant",
+    "gap",
+    "reset",
+];
+
+/// What it keeps closed on this bus, each with the action.
+pub fn kept_closed(bus: &Bus) -> Vec<(String, Action)> {
+    let mut at_rest = bus.clone();
+    for node in bus.asked() {
+        at_rest.nodes[usize::from(node)].mode = Mode::Rest;
+    }
+    let kept = |action: &Action| at_rest.is_open(*action) && !bus.is_open(*action);
+    let signal = match bus.phase {
+        Phase::Delivering { signal, .. } => signal_name(signal),
+        _ => "nothing",
+    };
+    let name = |action| match action {
+        Action::Clock { node } => format!("clock in {}", MODES[place(bus.node(node).mode)].0),
+        Action::Pass => format!("pass of {signal}"),
+        Action::Lose => format!("lose of {signal}"),
+        Action::Change { .. } => format!("change of {signal}"),
+        Action::Grant => "grant".into(),
+        Action::Gap => "gap".into(),
+        _ => "reset".into(),
+    };
+    let kept = forward::of_bus(bus).into_iter().filter(kept);
+    kept.map(|action| (name(action), action)).collect()
 }
 
 const PHASES: [&str; 5] = ["Idle", "Busy", "Delivering", "Granting", "Gapping"];
 
-fn phase_name(phase: Phase) -> &'static str {
+pub fn phase_name(phase: Phase) -> &'static str {
     match phase {
         Phase::Idle => "Idle",
         Phase::Busy => "Busy",
@@ -79,6 +161,13 @@ impl Closed {
             Closed::ClockNotOnlyHolder,
             Closed::ChangeToOwnAddress,
             Closed::ResetNoneWon,
+            Closed::RequestAsked,
+            Closed::ArbitrateAsked,
+            Closed::AskBufferEmpty,
+            Closed::AskAsked,
+            Closed::AskOtherMode,
+            Closed::DecideInRest,
+            Closed::DecideOtherMode,
         ];
         for kind in 4..=10 {
             let phases = PHASES.into_iter().filter(|&phase| phase != phase_of(kind));
@@ -87,17 +176,62 @@ impl Closed {
         all.extend(["Start", "End", "Prefix", "Dhead", "Dest"].map(Closed::LoseOn));
         all.extend(["Start", "End", "Prefix", "Dhead"].map(Closed::ChangeOn));
         all.extend(["Header", "Data", "Ack"].map(Closed::ChangeNotZero));
+        for what in KEPT_CLOSED {
+            let asked = [Who::First, Who::Last, Who::Several];
+            all.extend(asked.map(|who| Closed::WhileAsked { what, who }));
+        }
         all
     }
 
+    /// What a file with it aims at.
+    pub fn aim(self) -> String {
+        match self {
+            Closed::RequestAsked => "request of a node that is Asked".into(),
+            Closed::ArbitrateAsked => "arbitrate of a node that is Asked".into(),
+            Closed::AskBufferEmpty => "ask with an empty buffer".into(),
+            Closed::AskAsked => "ask of a node that is Asked".into(),
+            Closed::AskOtherMode => "ask in another mode".into(),
+            Closed::DecideInRest => "decide of a node in Rest".into(),
+            Closed::DecideOtherMode => "decide in another mode".into(),
+            Closed::WhileAsked { what, .. } => format!("open but for a node that is Asked: {what}"),
+            _ => "for other reasons".into(),
+        }
+    }
+
+    /// Actions of which the last is not open after the others on this bus, and for this reason, if
+    /// there are such.
+    fn example(self, bus: &Bus, random: &mut Random) -> Option<Vec<Action>> {
+        let Closed::WhileAsked { what, who } = self else {
+            return self.action(bus, random).map(|action| vec![action]);
+        };
+        let (mut actions, bus) = who.ask(bus)?;
+        let kept = kept_closed(&bus).into_iter().filter(|(name, _)| name == what);
+        let kept: Vec<Action> = kept.map(|(_, action)| action).collect();
+        actions.push((!kept.is_empty()).then(|| random.pick(&kept))?);
+        Some(actions)
+    }
+
+    /// How runs go in which it is looked for. Those that can ask while a node answers are the ones
+    /// that were misled and gave the bus back, if packets wait there.
+    fn style(self, random: &mut Random, n: u8) -> Style {
+        let style = Style::random(random, n);
+        match self {
+            Closed::WhileAsked { .. } => {
+                Style { aside: 30, dest_fault: 30, to_receiver: 90, filler: 40, ..style }
+            }
+            _ => style,
+        }
+    }
+
     /// An action that is not open on this bus, and for this reason, if there is one.
-    fn example(self, bus: &Bus, random: &mut Random) -> Option<Action> {
+    fn action(self, bus: &Bus, random: &mut Random) -> Option<Action> {
         let n = bus.n;
         let start = random.below(n.into()) as u8;
         let find = |fits: &dyn Fn(u8) -> bool| {
             (0..n).map(|step| (start + step) % n).find(|&node| fits(node))
         };
         let rests = |node| bus.node(node).mode == Mode::Rest;
+        let asked = |node| bus.node(node).mode == Mode::Asked;
         let full = |node| bus.node(node).buffer.is_some();
         let other = random.below(n.into()) as u8;
         let address = random.pick(&[other, ALL_NODES]);
@@ -114,7 +248,7 @@ impl Closed {
             }
             Closed::RequestOtherMode => {
                 let holding = |node| bus.node(node).mode == Mode::Holding;
-                let node = find(&|node| !rests(node) && !holding(node))?;
+                let node = find(&|node| !rests(node) && !asked(node) && !holding(node))?;
                 Some(Action::Request { node, packet })
             }
             Closed::ArbitrateBufferEmpty => {
@@ -122,8 +256,27 @@ impl Closed {
                 Some(Action::Arbitrate { node })
             }
             Closed::ArbitrateOtherMode => {
-                let node = find(&|node| !rests(node))?;
+                let node = find(&|node| !rests(node) && !asked(node))?;
                 Some(Action::Arbitrate { node })
+            }
+            Closed::RequestAsked => Some(Action::Request { node: find(&asked)?, packet }),
+            Closed::ArbitrateAsked => Some(Action::Arbitrate { node: find(&asked)? }),
+            Closed::AskAsked => Some(Action::Ask { node: find(&asked)? }),
+            Closed::AskBufferEmpty => {
+                let node = find(&|node| rests(node) && !full(node))?;
+                Some(Action::Ask { node })
+            }
+            Closed::AskOtherMode => {
+                let node = find(&|node| !rests(node) && !asked(node))?;
+                Some(Action::Ask { node })
+            }
+            Closed::DecideInRest => {
+                let node = find(&|node| rests(node) && full(node))?;
+                Some(Action::Decide { node })
+            }
+            Closed::DecideOtherMode => {
+                let node = find(&|node| !rests(node) && !asked(node))?;
+                Some(Action::Decide { node })
             }
             Closed::RespondOtherMode => {
                 let node = find(&|node| bus.node(node).mode != Mode::Answering)?;
@@ -134,6 +287,9 @@ impl Closed {
                 Some(Action::Respond { node, ack: random.byte(0, 15), hold: true })
             }
             Closed::RespondHoldsAgain => None,
+            // What follows is closed where no node is Asked.
+            _ if bus.asked().next().is_some() => None,
+            Closed::WhileAsked { .. } => None,
             Closed::Elsewhere { kind, phase } if phase_name(bus.phase) == phase => {
                 let node = find(&|node| bus.holder.has(node)).unwrap_or(start);
                 Some(right_action(random, kind, node, packet))
@@ -179,26 +335,27 @@ const TRIES: usize = 1000;
 pub fn run(random: &mut Random, closed: Closed) -> Case {
     for _ in 0..TRIES {
         let n = nodes(random);
-        let style = Style::random(random, n);
+        let style = closed.style(random, n);
         let bus = Bus::fresh(n).expect("n from 2 to 63");
         let mut driver = Driver::new(bus, Random::new(random.draw()), style);
         let mut records = Vec::new();
         let mut wrong = None;
         let mut met = 0;
         for place in 0..random.between(1, 800) as usize {
-            if let Some(action) = closed.example(&driver.bus, random) {
+            if let Some(actions) = closed.example(&driver.bus, random) {
                 // Each place where there is one is as likely as another.
                 met += 1;
                 if random.below(met) == 0 {
-                    wrong = Some((place, Record::from(action)));
+                    wrong = Some((place, actions));
                 }
             }
             records.push(driver.play().0.into());
         }
-        let Some((accepted, record)) = wrong else {
+        let Some((place, actions)) = wrong else {
             continue;
         };
-        records.insert(accepted, record);
+        let accepted = place + actions.len() - 1;
+        records.splice(place..place, actions.into_iter().map(Record::from));
         let bytes = file(n, &records);
         return Case { n, records, bytes, end: End::Refused { accepted, number: 7 } };
     }
