@@ -1,6 +1,6 @@
 /*
  * What the link layer of an IEEE 1394 node does with a signal that it receives: the reception chart
- * of the rehearsal bench as a constant, 24 modes by 14 classes of signals. The bench's
+ * of the rehearsal bench as a constant, 25 modes by 14 classes of signals. The bench's
  * docs/TABLE.md tells how to use it, and what it leaves to the program around it.
  *
  * Made by firmware/make from the printed table; not to be edited by hand.
@@ -10,7 +10,7 @@
 
 #include <stdint.h>
 
-#define CHART_MODES   24
+#define CHART_MODES   25
 #define CHART_CLASSES 14
 #define CHART_REPORTS 7
 
@@ -39,7 +39,8 @@ enum chart_mode {
     CHART_ACKING         = 20, /* puts out an acknowledgement */
     CHART_HOLDING        = 21, /* keeps the bus after its acknowledgement: its user is to reply */
     CHART_SPURIOUS       = 22, /* was granted the bus for a packet that it dropped */
-    CHART_LISTENING      = 23  /* was acknowledged by a node that keeps the bus: a reply is to come */
+    CHART_LISTENING      = 23, /* was acknowledged by a node that keeps the bus: a reply is to come */
+    CHART_ASKED          = 24  /* has asked for the bus, and was not answered yet */
 };
 
 /* The classes of signals, as the receiver sees them. */

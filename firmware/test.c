@@ -4,7 +4,7 @@
  *
  *     cc -std=c99 -Wall -Wextra -Werror -pedantic -o test chart.c test.c && table | ./test
  *
- * Status 0 and one line if all 336 cells agree; else status 1, and the first difference on standard
+ * Status 0 and one line if all 350 cells agree; else status 1, and the first difference on standard
  * error.
  */
 #include <stdio.h>
@@ -44,6 +44,7 @@ static const struct name modes[] = {
     {CHART_HOLDING, "Holding"},
     {CHART_SPURIOUS, "Spurious"},
     {CHART_LISTENING, "Listening"},
+    {CHART_ASKED, "Asked"},
 };
 
 static const struct name classes[] = {
