@@ -198,7 +198,7 @@ fn refused_after_the_line() {
     ends(&second(labelled(1, 2, 0, 0, 64)), "refused 1 5");
     ends(&second(labelled(1, 63, 0, 0, 64)), "refused 1 13");
     ends(&second(respond(1, 0, 2)), "refused 1 6");
-    // Kind 11 at the first: 11 · 15, then 5 · 31 more.
+    // Kind 13 at the first: 13 · 15, then 5 · 31 more.
     let first = summed_run(2, &[Record { kind: 13, ..pass() }, pass()]);
     assert_eq!(first, "0 195 350\nrefused 0 2\n");
     // The last of a full block; the next block is not reached.
