@@ -327,6 +327,7 @@ fn longest_from(mut watch: Watch) -> usize {
     let mut random = Random::new(7);
     let mut taken = 0;
     while watch.bus.phase != Phase::Idle {
+        assert!(taken < walk::bound(watch.bus.n) as usize, "not idle after {taken}");
         let action = forward::choose(&watch.bus, Choice::Longest, &mut random).unwrap();
         watch.step(&action.into()).unwrap().unwrap();
         taken += 1;
