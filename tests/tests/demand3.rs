@@ -315,11 +315,11 @@ fn the_longest_way_is_22n() {
     let text = walk::walk(2).unwrap();
     assert!(text.ends_with("longest way of forward actions to Idle 44, bound 46\n"), "{text}");
     assert!(text.contains("54 of 350 cells met, 11 of them drops"), "{text}");
-    assert!(text.contains("up to 1 nodes Asked"), "{text}");
+    assert!(text.contains("up to 1 Asked at once"), "{text}");
     let text = walk::walk(3).unwrap();
     assert!(text.ends_with("longest way of forward actions to Idle 66, bound 68\n"), "{text}");
     assert!(text.contains("63 of 350 cells met, 15 of them drops"), "{text}");
-    assert!(text.contains("up to 2 nodes Asked"), "{text}");
+    assert!(text.contains("up to 2 Asked at once"), "{text}");
 }
 
 /// How many forward actions a long continuation takes to Idle.

@@ -13,12 +13,17 @@ pub fn look(bus: &Bus, turn: usize) -> Result<(), String> {
     nodes.find_map(|node| does_both(bus, node)).unwrap_or(Ok(()))
 }
 
-/// A node asks with a full buffer, and only its decision changes that.
+/// A node asks with a full buffer, which stays so up to its decision; and that is open.
 fn waits_with_a_packet(bus: &Bus) -> Result<(), String> {
-    match bus.asked().find(|&node| bus.node(node).buffer.is_none()) {
-        Some(node) => Err(format!("node {node} is Asked, and its buffer is empty")),
-        None => Ok(()),
+    for node in bus.asked() {
+        if bus.node(node).buffer.is_none() {
+            return Err(format!("node {node} is Asked, and its buffer is empty"));
+        }
+        if !bus.is_open(Action::Decide { node }) {
+            return Err(format!("node {node} is Asked, and its decision is not open"));
+        }
     }
+    Ok(())
 }
 
 /// "While a node is Asked, kinds 4 to 10 are not open."

@@ -154,6 +154,7 @@ const OVER_60000: &str = "a sum over 60,000";
 const GREATEST: &str = "a sum of 65,520";
 const BELOW: &str = "a sum below the one before it";
 const FAR_PAST: &str = "a sum that has passed 65,521 more than 500 times";
+const DECIDED: &str = "a block with ask and decide";
 const AT_CHECK: &str = "a last sum that passes 65,521 with the head's";
 const CLOSED_DONE: &str = "a closed action passed over, and done";
 const CLOSED_REFUSED: &str = "a closed action passed over, and a later one refused";
@@ -182,7 +183,7 @@ fn aims() -> Vec<String> {
         aims.extend(Place::ALL.map(|place| at_action(number, place)));
     }
     aims.extend(LINES.into_iter().chain(BLOCKS).map(String::from));
-    let sums = [ZERO, ZERO_AGAIN, OVER_60000, GREATEST, BELOW, FAR_PAST, AT_CHECK];
+    let sums = [ZERO, ZERO_AGAIN, OVER_60000, GREATEST, BELOW, FAR_PAST, AT_CHECK, DECIDED];
     aims.extend(sums.into_iter().chain([CLOSED_DONE, CLOSED_REFUSED]).map(String::from));
     aims
 }
@@ -239,6 +240,11 @@ fn enter_line(block: &[u8], line: &Line, hits: &mut Hits) {
     }
     if before + head_sum(block) >= MODULUS {
         hits.enter(AT_CHECK);
+    }
+    let kinds = block[FIRST_ACTION..CHECK_AT].iter().step_by(RECORD);
+    let kinds: Vec<&u8> = kinds.take(line.sums.len()).collect();
+    if [11, 12].iter().all(|kind| kinds.contains(&kind)) {
+        hits.enter(DECIDED);
     }
 }
 

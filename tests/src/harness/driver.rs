@@ -97,8 +97,10 @@ impl Driver {
         if self.random.percent(self.style.aside) {
             return self.aside();
         }
-        if self.bus.asked().next().is_some() {
-            return self.while_asked();
+        let start = self.any_node();
+        let asked = self.first_from(start, |node| self.bus.node(node).mode == Mode::Asked);
+        if let Some(node) = asked {
+            return self.while_asked(node);
         }
         match self.bus.phase {
             Phase::Idle => self.on_idle(),
@@ -164,36 +166,34 @@ impl Driver {
         }
     }
 
-    /// The decision of some node that is Asked, or what is open meanwhile.
-    fn while_asked(&mut self) -> Action {
-        let from = self.any_node();
+    /// The decision of this node, which is Asked, or what is open meanwhile.
+    fn while_asked(&mut self, asked: u8) -> Action {
         if !self.random.percent(self.style.linger) {
-            let asked = self.from(from, |node| node.mode == Mode::Asked);
-            return asked.map_or(Action::Pass, |node| Action::Decide { node });
+            return Action::Decide { node: asked };
         }
+        let start = self.any_node();
         let holder = self.bus.pick_holder(self.random.draw());
-        let ready = self.from(from, |node| node.mode == Mode::Rest && node.buffer.is_some());
+        let is_ready = |node: &Node| node.mode == Mode::Rest && node.buffer.is_some();
+        let ready = self.first_from(start, |node| is_ready(self.bus.node(node)));
         match (self.random.below(4), holder, ready) {
             (0, Some(node), _) if self.bus.node(node).mode == Mode::Answering => self.respond(node),
             (0..=1, _, Some(node)) => Action::Ask { node },
             (2, _, Some(node)) => Action::Arbitrate { node },
-            _ => self.request(from),
+            _ => self.request(start),
         }
     }
 
-    /// The first node from this one on whose record is such a one.
-    fn from(&self, from: u8, is: impl Fn(&Node) -> bool) -> Option<u8> {
+    /// The first node from this one on that is such a one.
+    fn first_from(&self, start: u8, is: impl Fn(u8) -> bool) -> Option<u8> {
         let n = self.bus.n;
-        (0..n).map(|step| (from + step) % n).find(|&node| is(self.bus.node(node)))
+        (0..n).map(|step| (start + step) % n).find(|&node| is(node))
     }
 
     fn on_idle(&mut self) -> Action {
-        let n = self.bus.n;
         let start = self.any_node();
-        let ready = (0..n)
-            .map(|step| (start + step) % n)
-            .find(|&node| self.bus.node(node).buffer.is_some() && !self.bus.won.has(node));
-        let won = self.bus.won.any(n);
+        let is_ready = |node| self.bus.node(node).buffer.is_some() && !self.bus.won.has(node);
+        let ready = self.first_from(start, is_ready);
+        let won = self.bus.won.any(self.bus.n);
         match ready {
             Some(node) if self.random.percent(80) => self.arbitrate(node),
             _ if won && self.random.percent(if ready.is_some() { 10 } else { 50 }) => Action::Reset,

@@ -286,7 +286,7 @@ pub fn walk(n: u8) -> Result<String, String> {
     let drops = walk.cells.drops();
     let (bound, expected) = (bound(n), expected_longest(n));
     text += &format!(
-        "n = {n}: {} states, up to {} nodes Asked, {} of 350 cells met, {} of them drops, no dead end, longest way of forward actions to Idle {longest}, bound {bound}\n",
+        "n = {n}: {} states, up to {} Asked at once, {} of 350 cells met, {} of them drops, no dead end, longest way of forward actions to Idle {longest}, bound {bound}\n",
         walk.known.len(),
         walk.most_asked,
         walk.cells.count(),

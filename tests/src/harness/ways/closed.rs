@@ -70,10 +70,10 @@ impl Who {
     }
 }
 
-/// What a node that is Asked keeps closed in runs from a fresh bus. Nothing else: from the Dhead of a
-/// packet on, and from the Ack of an acknowledgement on, up to the End, no node is in Rest, and
-/// before that a node that is Asked does not let the Start go out. So there is no lose and no change
-/// among them, and no clock in Holding.
+/// What a node that is Asked keeps closed in runs from a fresh bus. Once a Start was delivered no node
+/// is in Rest until an End is put out, and a node that is Asked keeps a Start from being delivered. So
+/// nobody is Asked while a Dhead, Dest, Header, Data or Ack is under way, nor while a node is in
+/// Holding: there is no lose and no change among these.
 pub const KEPT_CLOSED: [&str; 10] = [
     "clock in Sending",
     "clock in Answering",
@@ -87,13 +87,17 @@ pub const KEPT_CLOSED: [&str; 10] = [
     "reset",
 ];
 
-/// What it keeps closed on this bus, each with the action.
+/// What it keeps closed on this bus, each with the action: what would be open if the nodes that are
+/// Asked were in Rest.
 pub fn kept_closed(bus: &Bus) -> Vec<(String, Action)> {
+    if bus.asked().next().is_none() {
+        return Vec::new();
+    }
     let mut at_rest = bus.clone();
     for node in bus.asked() {
         at_rest.nodes[usize::from(node)].mode = Mode::Rest;
     }
-    let kept = |action: &Action| at_rest.is_open(*action) && !bus.is_open(*action);
+    let kept = |action: &Action| at_rest.is_open(*action);
     let signal = match bus.phase {
         Phase::Delivering { signal, .. } => signal_name(signal),
         _ => "nothing",
