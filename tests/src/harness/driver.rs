@@ -67,6 +67,9 @@ impl Style {
     }
 }
 
+/// How many actions are proposed before a bus counts as stuck.
+const PROPOSALS: usize = 100_000;
+
 pub struct Driver {
     pub bus: Bus,
     pub random: Random,
@@ -83,7 +86,7 @@ impl Driver {
 
     /// Plays some open action on the bus, and says which.
     pub fn play(&mut self) -> (Action, Outcome) {
-        loop {
+        for _ in 0..PROPOSALS {
             // A refused one changes nothing, so another can be proposed.
             let action = self.propose();
             let outcome = self.bus.act(action);
@@ -91,6 +94,7 @@ impl Driver {
                 return (action, outcome);
             }
         }
+        panic!("none of {PROPOSALS} actions is open: {:?}", self.bus)
     }
 
     fn propose(&mut self) -> Action {
@@ -171,16 +175,25 @@ impl Driver {
         if !self.random.percent(self.style.linger) {
             return Action::Decide { node: asked };
         }
-        let start = self.any_node();
         let holder = self.bus.pick_holder(self.random.draw());
-        let is_ready = |node: &Node| node.mode == Mode::Rest && node.buffer.is_some();
-        let ready = self.first_from(start, |node| is_ready(self.bus.node(node)));
-        match (self.random.below(4), holder, ready) {
-            (0, Some(node), _) if self.bus.node(node).mode == Mode::Answering => self.respond(node),
+        match (self.random.below(4), holder, self.ready()) {
+            (0..=1, Some(node), _) if self.bus.node(node).mode == Mode::Answering => {
+                self.respond(node)
+            }
             (0..=1, _, Some(node)) => Action::Ask { node },
             (2, _, Some(node)) => Action::Arbitrate { node },
-            _ => self.request(start),
+            _ => {
+                let node = self.any_node();
+                self.request(node)
+            }
         }
+    }
+
+    /// Some node in Rest with a full buffer: it may ask.
+    fn ready(&mut self) -> Option<u8> {
+        let start = self.any_node();
+        let is_ready = |node: &Node| node.mode == Mode::Rest && node.buffer.is_some();
+        self.first_from(start, |node| is_ready(self.bus.node(node)))
     }
 
     /// The first node from this one on that is such a one.
@@ -214,9 +227,13 @@ impl Driver {
             Some(node) => node,
             None => return self.aside(),
         };
-        match self.bus.node(node).mode {
-            Mode::Answering if !self.random.percent(self.style.filler) => self.respond(node),
-            Mode::Holding
+        match (self.bus.node(node).mode, self.ready()) {
+            // Whoever can ask while a node answers has just given the bus back.
+            (Mode::Answering, Some(node)) if self.random.percent(self.style.ask / 2) => {
+                Action::Ask { node }
+            }
+            (Mode::Answering, _) if !self.random.percent(self.style.filler) => self.respond(node),
+            (Mode::Holding, _)
                 if !(holders.only(node, self.bus.n) && self.random.percent(self.style.filler)) =>
             {
                 self.reply(node)
