@@ -1,5 +1,5 @@
 -- A plan carried out in place, on the arrays of a bus, is the charts' step on its view. Assumes nothing.
-use mathlib.Core.Path.{_≡_, refl, sym, ap, _∙_}
+use mathlib.Core.Path.{_≡_, refl, sym, ap, ap₂, _∙_}
 use mathlib.Core.Bool.{Bool, true, false, _&&_}
 use mathlib.Core.List.{List}
 use Prim.Native.Nat.{ℕ, _<_}
@@ -19,7 +19,7 @@ use Rattle.charts.specs.declared.Decoded.the-variants.{Refused, Accepted}
 use Rattle.charts.specs.Reception.{hears}
 use Rattle.charts.specs.State.{concatenatedAfter}
 use Rattle.charts.specs.Actions.{nextOf}
-use Rattle.charts.specs.Step.{stepWith}
+use Rattle.charts.specs.Step.{stepWith, someAsked}
 use Rattle.charts.specs.View.{view, cellOf, mark, freshNode, Sized}
 use Rattle.link.specs.Reading.{cells, heardBy}
 use Rattle.link.proofs.Reading.{table-hears}
@@ -31,27 +31,27 @@ use Rattle.bus.proofs.ReadLaws.{clearing-fits}
 use Rattle.bus.proofs.ViewLaws.{view-n, view-phase, stored, resultOf, carried}
 
 -- what passes 12 is planned
-tried-ready : (n : ℕ) (p : Phase) (b : Bool) (i : ℕ) (c : Cell) (ws ps hs : ℕ → Bool) (d : Decoded) → Ready n p ps d → i < 63 → tried hears n p b i c ws ps hs d ≡ planned n p b i c ws ps hs d
-tried-ready n p b i c ws ps hs (Refused k) r h = refl
-tried-ready n p b i c ws ps hs (Accepted m) r h = rw (lt-ltb n 64 (let s = r .size in omega arith), lt-ltb (nextOf p) 63 (r .next), lt-ltb i 63 h)
+tried-ready : (n : ℕ) (p : Phase) (b q : Bool) (i : ℕ) (c : Cell) (ws ps hs : ℕ → Bool) (d : Decoded) → Ready n p ps d → i < 63 → tried hears n p b q i c ws ps hs d ≡ planned n p b q i c ws ps hs d
+tried-ready n p b q i c ws ps hs (Refused k) r h = refl
+tried-ready n p b q i c ws ps hs (Accepted m) r h = rw (lt-ltb n 64 (let s = r .size in omega arith), lt-ltb (nextOf p) 63 (r .next), lt-ltb i 63 h)
 
 module _ (b : Bus) (d : Decoded) (i : ℕ) (c : Cell) (p : Plan) (size : Sized b) (ready : Ready (b .n) (b .phase) (mark (b .pending)) d) (l : i < 63)
     (is-aim : i ≡ aimed (b .n) (b .phase) (mark (b .pending)) d)
     (is-cell : c ≡ cellOf (getD (b .nodes) i freshNode) (mark (b .won) i) (mark (b .pending) i) (mark (b .holder) i) (mark (b .misled) i))
-    (t : List ℕ) (is-table : t ≡ cells)
-    (is-plan : p ≡ tried (heardBy t) (b .n) (b .phase) (b .concatenated) i c (mark (b .won)) (mark (b .pending)) (mark (b .holder)) d) where
-  plan-is : p ≡ planned (b .n) (b .phase) (b .concatenated) i c (mark (b .won)) (mark (b .pending)) (mark (b .holder)) d
+    (t : List ℕ) (is-table : t ≡ cells) (q : Bool) (is-asked : q ≡ someAsked (view b))
+    (is-plan : p ≡ tried (heardBy t) (b .n) (b .phase) (b .concatenated) q i c (mark (b .won)) (mark (b .pending)) (mark (b .holder)) d) where
+  plan-is : p ≡ planned (b .n) (b .phase) (b .concatenated) (someAsked (view b)) i c (mark (b .won)) (mark (b .pending)) (mark (b .holder)) d
   plan-is =
       is-plan
-      ∙ ap (λ h. tried h (b .n) (b .phase) (b .concatenated) i c (mark (b .won)) (mark (b .pending)) (mark (b .holder)) d) (ap heardBy is-table ∙ table-hears)
-      ∙ tried-ready (b .n) (b .phase) (b .concatenated) i c (mark (b .won)) (mark (b .pending)) (mark (b .holder)) d ready l
+      ∙ ap₂ (λ h q. tried h (b .n) (b .phase) (b .concatenated) q i c (mark (b .won)) (mark (b .pending)) (mark (b .holder)) d) (ap heardBy is-table ∙ table-hears) is-asked
+      ∙ tried-ready (b .n) (b .phase) (b .concatenated) (someAsked (view b)) i c (mark (b .won)) (mark (b .pending)) (mark (b .holder)) d ready l
 
   -- a plan that clears marks is one for at most 63 nodes
   clears-fit : (f : Marking → Bool) → f M.Nothing ≡ false → (o : Bool) → o ≡ f (p .marking) → (o && ltb (b .n) 64) ≡ f (p .marking)
   clears-fit f z o e = go o e
     where
       go : (q : Bool) → q ≡ f (p .marking) → (q && ltb (b .n) 64) ≡ f (p .marking)
-      go true g = let s = clearing-fits f z b d i c p ready plan-is (sym g) in lt-ltb (b .n) 64 (omega arith) ∙ g
+      go true g = let s = clearing-fits f z b d i c p ready _ plan-is (sym g) in lt-ltb (b .n) 64 (omega arith) ∙ g
       go false g = g
 
   -- v, w and m are what is then stored of the node, and the marks won and misled once `x` and `y` have asked to clear them; o is the bus's own mark

@@ -1,4 +1,4 @@
--- A record that was looked at is about a node that has a place in the arrays. Assumes nothing.
+-- A record that was looked at is about a node of the bus, which has a place in the arrays. Assumes nothing.
 use mathlib.Core.Path.{_≡_, refl, sym}
 use mathlib.Core.Bool.{Bool, true, false, cond, _&&_}
 use Prim.Native.Nat.{ℕ, _<_, _≤_}
@@ -6,8 +6,6 @@ use native.Mathlib.Omega.{arith}
 use lib.Dec.{ltb}
 use borrow.Author.Tests.{ltb-true}
 use Rattle.charts.specs.declared.Phase.{Phase}
-use Rattle.charts.specs.declared.Move.{Move}
-use Rattle.charts.specs.declared.Move.the-variants.{Request, Arbitrate, Respond, Clock, Carry, Grant, GapNext, Reset}
 use Rattle.charts.specs.declared.Action.{Action}
 use Rattle.charts.specs.declared.Cell.{Cell}
 use Rattle.charts.specs.declared.Marking.{Marking}
@@ -15,7 +13,6 @@ use Rattle.charts.specs.declared.Marking.the-variants as M
 use Rattle.charts.specs.declared.Decoded.{Decoded}
 use Rattle.charts.specs.declared.Decoded.the-variants.{Refused, Accepted}
 use Rattle.charts.specs.declared.Bus.{Bus}
-use Rattle.charts.specs.Actions.{nextOf, target}
 use Rattle.charts.specs.Records.{read}
 use Rattle.charts.specs.Step.{look}
 use Rattle.charts.specs.State.{every}
@@ -24,20 +21,9 @@ use Rattle.charts.specs.View.{view, mark}
 use Rattle.bus.specs.declared.plans.Plan.{Plan}
 use Rattle.bus.specs.Advance.{glance}
 use Rattle.bus.specs.Plans.{Ready, planned}
-use Rattle.charts.proofs.Tools.{and-true, lowest-below}
-use Rattle.charts.proofs.Steps.{Known, Decodes, taken, decodes}
+use Rattle.charts.proofs.Tools.{and-true}
+use Rattle.charts.proofs.Steps.{Decodes, taken, decodes, target-lt}
 use Rattle.bus.proofs.PhaseLaws.{next-below}
-
--- the node that an action is about has a place in the arrays
-target-below : (n : ℕ) (p : Phase) (ps : ℕ → Bool) (m : Move) → n ≤ 63 → nextOf p < 63 → Known n m → target n p ps m < 63
-target-below n p ps (Request i q) h e k = omega (arith, k .0)
-target-below n p ps (Arbitrate i) h e k = omega arith
-target-below n p ps (Respond i a hold) h e k = omega (arith, k .0)
-target-below n p ps (Clock i) h e k = omega arith
-target-below n p ps (Carry w) h e k = e
-target-below n p ps Grant h e k = lowest-below ps n 0 63 h (omega arith)
-target-below n p ps GapNext h e k = e
-target-below n p ps Reset h e k = omega arith
 
 pub size-below : (n : ℕ) (p : Phase) → (isSize n && phaseFits n p) ≡ true → n ≤ 63
 size-below n p e = let h : n < 64 = ltb-true n 64 (and-true (ltb 1 n) _ (and-true (isSize n) _ e .0) .1) in omega arith
@@ -46,9 +32,10 @@ module _ (n : ℕ) (p : Phase) (ps : ℕ → Bool) (a : Action) where
   ready-read : (d : Decoded) → (isSize n && phaseFits n p) ≡ true → Decodes n a d → Ready n p ps d
   ready-read (Refused k) e q = tt
   ready-read (Accepted m) e (taken k) =
+      let y = and-true (isSize n) _ e in
       let h = size-below n p e in
-      let g = next-below n p h (and-true (isSize n) _ e .1) in
-      record { size = h; next = g; node = target-below n p ps m h g k }
+      let two : 1 < n = ltb-true 1 n (and-true (ltb 1 n) _ (y .0) .0) in
+      record { size = h; next = next-below n p h (y .1); node = target-lt n p ps (omega arith) (y .1) m k }
 
   ready-if : (b : Bool) (k : ℕ) → (b ≡ true → (isSize n && phaseFits n p) ≡ true) → Ready n p ps (cond b (read n a) (Refused k))
   ready-if true k f = ready-read (read n a) (f refl) (decodes n a)
@@ -82,6 +69,6 @@ ready-look b a = ready-if (b .n) (b .phase) (mark (b .pending)) a (valid (view b
 
 -- only an accepted record clears marks
 pub clearing-fits : (f : Marking → Bool) → f M.Nothing ≡ false → (b : Bus) (d : Decoded) (i : ℕ) (c : Cell) (p : Plan) → Ready (b .n) (b .phase) (mark (b .pending)) d →
-    p ≡ planned (b .n) (b .phase) (b .concatenated) i c (mark (b .won)) (mark (b .pending)) (mark (b .holder)) d → f (p .marking) ≡ true → b .n ≤ 63
-clearing-fits f o b (Refused k) i c p r q e = let z : _≡_ {A = ℕ} 0 1 = cc in omega arith
-clearing-fits f o b (Accepted m) i c p r q e = r .size
+    (q : Bool) → p ≡ planned (b .n) (b .phase) (b .concatenated) q i c (mark (b .won)) (mark (b .pending)) (mark (b .holder)) d → f (p .marking) ≡ true → b .n ≤ 63
+clearing-fits f o b (Refused k) i c p r q y e = let z : _≡_ {A = ℕ} 0 1 = cc in omega arith
+clearing-fits f o b (Accepted m) i c p r q y e = r .size

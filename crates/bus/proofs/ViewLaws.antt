@@ -18,7 +18,7 @@ use Rattle.charts.specs.declared.Decoded.{Decoded}
 use Rattle.charts.specs.declared.Decoded.the-variants.{Refused, Accepted}
 use Rattle.charts.specs.Actions.{Outcome, closed, does}
 use Rattle.charts.specs.State.{State, upd, moved, concatenatedAfter, remarked, wons, pendings, holders, fresh, freshCell}
-use Rattle.charts.specs.Step.{Result, play, stepWith, carryOut, about, comesTo}
+use Rattle.charts.specs.Step.{Result, play, stepWith, carryOut, about, someAsked, comesTo}
 use Rattle.charts.specs.View.{view, cellOf, mark, freshNode, Sized}
 use Rattle.bus.specs.declared.plans.Plan.{Plan}
 use Rattle.bus.specs.Marks.{unmarked, clearsMisled, clearsWon}
@@ -126,14 +126,14 @@ plays s i (does r p c x) = refl
 abbrev aim : State → Decoded → ℕ
 aim s d = aimed (s .n) (s .phase) (pendings (s .cell)) d
 
-steps : (s : State) (d : Decoded) → applied s (aim s d) (planned (s .n) (s .phase) (s .concatenated) (aim s d) (s .cell (aim s d)) (wons (s .cell)) (pendings (s .cell)) (holders (s .cell)) d) ≡ stepWith s d
+steps : (s : State) (d : Decoded) → applied s (aim s d) (planned (s .n) (s .phase) (s .concatenated) (someAsked s) (aim s d) (s .cell (aim s d)) (wons (s .cell)) (pendings (s .cell)) (holders (s .cell)) d) ≡ stepWith s d
 unfolding play
 steps s (Refused k) = ap {B = Result} (λ s. record { number = k; report = _; state = s }) (kept s 0)
 steps s (Accepted m) = plays s (about s m) (comesTo s m)
 
 pub carried : (b : Bus) (d : Decoded) (i : ℕ) (c : Cell) (p : Plan) → i ≡ aimed (b .n) (b .phase) (mark (b .pending)) d →
     c ≡ cellOf (getD (b .nodes) i freshNode) (mark (b .won) i) (mark (b .pending) i) (mark (b .holder) i) (mark (b .misled) i) →
-    p ≡ planned (b .n) (b .phase) (b .concatenated) i c (mark (b .won)) (mark (b .pending)) (mark (b .holder)) d →
+    p ≡ planned (b .n) (b .phase) (b .concatenated) (someAsked (view b)) i c (mark (b .won)) (mark (b .pending)) (mark (b .holder)) d →
     applied (view b) i p ≡ stepWith (view b) d
 unfolding view
 carried b d i c p ei ec ep = rw (ep, ec, ei) (steps (view b) d)

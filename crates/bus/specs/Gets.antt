@@ -14,7 +14,7 @@ use Rattle.charts.specs.declared.Arrival.the-variants.{Closed, Lost, Hears}
 use Rattle.charts.specs.declared.Marking.{Marking}
 use Rattle.charts.specs.declared.Marking.the-variants as M
 use Rattle.charts.specs.declared.Move.{Move}
-use Rattle.charts.specs.declared.Move.the-variants.{Request, Arbitrate, Respond, Clock, Carry, Grant, GapNext, Reset}
+use Rattle.charts.specs.declared.Move.the-variants.{Request, Arbitrate, Respond, Clock, Carry, Grant, GapNext, Reset, Ask, Decide}
 use Rattle.charts.specs.Reception.{Reception}
 use Rattle.charts.specs.Arrivals.{arrives}
 use Rattle.charts.specs.State.{upd, isIdle}
@@ -44,6 +44,8 @@ incoming p q (Carry w) = carried p q w
 incoming p q Grant = Closed
 incoming p q GapNext = gapped p
 incoming p q Reset = Closed
+incoming p q (Ask i) = Closed
+incoming p q (Decide i) = Closed
 
 -- the phase once it has got it, and the bus's own mark in that phase
 abbrev pub nextGap : ℕ → ℕ → Phase

@@ -12,7 +12,8 @@ use Rattle.charts.specs.declared.Decoded.{Decoded}
 use Rattle.charts.specs.declared.Decoded.the-variants.{Refused, Accepted}
 use Rattle.charts.specs.Numbers as N
 use Rattle.charts.specs.Reception.{Reception, hears}
-use Rattle.charts.specs.Actions.{Outcome, closed, does, nextOf, target, outcome}
+use Rattle.charts.specs.declared.Move.{Move}
+use Rattle.charts.specs.Actions.{Outcome, closed, does, when, mayBeOpen, nextOf, target, outcome}
 use Rattle.bus.specs.declared.plans.Plan.{Plan}
 
 -- "A refused step returns the number, the state handed in and no report"
@@ -32,25 +33,29 @@ abbrev pub aimed : ℕ → Phase → (ℕ → Bool) → Decoded → ℕ
 aimed n p ps (Refused k) = 0
 aimed n p ps (Accepted m) = target n p ps m
 
--- the plan of a record about node i, whose cell is c; b is the bus's own mark
-abbrev pub planned : ℕ → Phase → Bool → ℕ → Cell → (ℕ → Bool) → (ℕ → Bool) → (ℕ → Bool) → Decoded → Plan
-planned n p b i c ws ps hs (Refused k) = refusing k p c
-planned n p b i c ws ps hs (Accepted m) = settled p c (outcome hears n p b i c ws ps hs m)
+-- the plan of an action about node i, whose cell is c, where what nodes do with signals is h; b is the bus's own mark, and q says whether a node is Asked
+abbrev pub opened : Reception → ℕ → Phase → Bool → Bool → ℕ → Cell → (ℕ → Bool) → (ℕ → Bool) → (ℕ → Bool) → Move → Plan
+opened h n p b q i c ws ps hs m = settled p c (when (mayBeOpen q m) (outcome h n p b i c ws ps hs m))
+
+-- the plan of a record
+abbrev pub planned : ℕ → Phase → Bool → Bool → ℕ → Cell → (ℕ → Bool) → (ℕ → Bool) → (ℕ → Bool) → Decoded → Plan
+planned n p b q i c ws ps hs (Refused k) = refusing k p c
+planned n p b q i c ws ps hs (Accepted m) = opened hears n p b q i c ws ps hs m
 
 -- what 12 says that makes a plan for node i safe: at most 63 nodes, and i and the node that gets the next signal or Gap below 63. The plan that asks for it, of any record
--- about any node, where what nodes do with signals is h
+-- about any node
 abbrev pub isReady : ℕ → Phase → ℕ → Bool
 isReady n p i = ltb n 64 && (ltb (nextOf p) 63 && ltb i 63)
 
-abbrev pub tried : Reception → ℕ → Phase → Bool → ℕ → Cell → (ℕ → Bool) → (ℕ → Bool) → (ℕ → Bool) → Decoded → Plan
-tried h n p b i c ws ps hs (Refused k) = refusing k p c
-tried h n p b i c ws ps hs (Accepted m) = cond (isReady n p i) (settled p c (outcome h n p b i c ws ps hs m)) (refusing N.not-valid p c)
+abbrev pub tried : Reception → ℕ → Phase → Bool → Bool → ℕ → Cell → (ℕ → Bool) → (ℕ → Bool) → (ℕ → Bool) → Decoded → Plan
+tried h n p b q i c ws ps hs (Refused k) = refusing k p c
+tried h n p b q i c ws ps hs (Accepted m) = cond (isReady n p i) (opened h n p b q i c ws ps hs m) (refusing N.not-valid p c)
 
 -- what indexing by an accepted record needs
 pub record Fits (n : ℕ) (p : Phase) (i : ℕ) : Type 0 where
   pub size : n ≤ 63
   pub next : nextOf p < 63
-  pub node : i < 63
+  pub node : i < n
 
 abbrev pub Ready : ℕ → Phase → (ℕ → Bool) → Decoded → Type 0
 Ready n p ps (Refused k) = Unit {0}

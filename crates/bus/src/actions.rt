@@ -1,4 +1,4 @@
-// The actions of document 01, kinds 1 to 10: each makes a plan from the few values that it looks at, the phase, one cell and the marks of all nodes.
+// The actions of document 01, kinds 1 to 12: each makes a plan from the few values that it looks at, the phase, one cell and the marks of all nodes.
 // The bus's record is not handed in.
 ghost use mathlib.Core.Path.{_≡_};
 ghost use mathlib.Core.Bool.{_&&_};
@@ -10,12 +10,13 @@ ghost use Rattle.charts.specs.declared.Output.the-variants as O;
 ghost use Rattle.charts.specs.declared.Marking.the-variants as M;
 ghost use Rattle.charts.specs.Modes.{isRest};
 ghost use Rattle.charts.specs.State.{isEmpty, upd};
-ghost use Rattle.charts.specs.Actions.{request, arbitrate, arbitrateWith, respond, clock, clockWith, grant, reset};
-ghost use Rattle.charts.specs.Actions.{starts, wins, firstOther, nextOther, freed, afterFree, putsOut, markingBy, onward, hearing, nextOf};
+ghost use Rattle.charts.specs.Actions.{request, respond, clock, clockWith, grant, reset, ask};
+ghost use Rattle.charts.specs.Actions.{starts, wins, loses, decided, firstOther, nextOther, freed, afterFree, putsOut, markingBy, onward, hearing, nextOf};
 ghost use Rattle.charts.specs.Actions.{takesGrant, afterGrant};
 ghost use Rattle.charts.specs.View.{mark};
 ghost use Rattle.link.specs.Reading.{heardBy};
 ghost use Rattle.bus.specs.Gets.{carried, gapped, incoming, nextGap, phaseAfter, markingIn, got, gets};
+ghost use Rattle.bus.specs.Decides.{decidesFrom, decides};
 ghost use Rattle.bus.specs.Plans.{doing, settled};
 use crate::bools;
 use crate::cells;
@@ -83,21 +84,22 @@ fn win(p: Packet, c: Cell) -> Cell
     cells::set_buffer(Buffer::Empty, cells::set_won(true, held))
 }
 
-// "Otherwise report lost; nothing changes."
+// "a loser returns to Rest"
 fn lost(phase: Phase, i: u8, c: Cell) -> Plan
-    ensures { λ r. ⌜ r ≡ doing (R.Lost i) phase c M.Nothing ⌝ }
+    ensures { λ r. ⌜ r ≡ doing (R.Lost i) phase (loses c) M.Nothing ⌝ }
 {
-    plans::does(Report::Lost(i), phase, c, Marking::Nothing)
+    plans::does(
+        Report::Lost(i),
+        phase,
+        cells::set_mode(Mode::Rest, c),
+        Marking::Nothing,
+    )
 }
 
-// Node i asks for the bus with the packet p in its buffer.
+// Node i contends for the bus with the packet p in its buffer.
 fn contend(phase: Phase, i: u8, c: Cell, p: Packet) -> Plan
-    ensures { λ r. ⌜ r ≡ settled phase c (arbitrateWith phase i c (B.Full p)) ⌝ }
+    ensures { λ r. ⌜ r ≡ settled phase c (decided phase i c (B.Full p)) ⌝ }
 {
-    let mode = c.mode;
-    if !link::modes::is_rest(mode) {
-        return plans::closed(phase, c);
-    }
     if !phases::is_idle(phase) {
         return lost(phase, i, c);
     }
@@ -107,15 +109,48 @@ fn contend(phase: Phase, i: u8, c: Cell, p: Packet) -> Plan
     plans::does(Report::Won(i), Phase::Busy, win(p, c), Marking::Nothing)
 }
 
-// 2. arbitrate
-pub(crate) fn arbitrate(phase: Phase, i: u8, c: Cell) -> Plan
-    ensures { λ r. ⌜ r ≡ settled phase c (arbitrate phase i c) ⌝ }
+// Node i is decided, if it has a packet.
+fn decided(phase: Phase, i: u8, c: Cell) -> Plan
+    ensures { λ r. ⌜ r ≡ settled phase c (decided phase i c (c .buffer)) ⌝ }
 {
     let buffer = c.buffer;
     match buffer {
         Buffer::Empty => plans::closed(phase, c),
         Buffer::Full(p) => contend(phase, i, c, p),
     }
+}
+
+// Whether a node in that mode is decided by an action: kind 2 decides one in Rest, kind 12 one that is Asked.
+fn decides_from(mode: Mode, m: Move) -> bool
+    ensures { λ r. ⌜ r ≡ decidesFrom mode m ⌝ }
+{
+    match m {
+        Move::Request { node: _, packet: _ } => false,
+        Move::Arbitrate(_) => link::modes::is_rest(mode),
+        Move::Respond {
+            node: _,
+            ack: _,
+            hold: _,
+        } => false,
+        Move::Clock(_) => false,
+        Move::Carry(_) => false,
+        Move::Grant => false,
+        Move::GapNext => false,
+        Move::Reset => false,
+        Move::Ask(_) => false,
+        Move::Decide(_) => link::modes::is_asked(mode),
+    }
+}
+
+// 2. arbitrate and 12. decide. (Both from here: a second place that decides would copy each cell through memory.)
+pub(crate) fn decide(phase: Phase, i: u8, c: Cell, m: Move) -> Plan
+    ensures { λ r. ⌜ r ≡ settled phase c (decides phase i c m) ⌝ }
+{
+    let mode = c.mode;
+    if !decides_from(mode, m) {
+        return plans::closed(phase, c);
+    }
+    decided(phase, i, c)
 }
 
 // 3. respond. The bus's own mark: "While it is set, respond with hold 1 is not open".
@@ -398,6 +433,8 @@ fn incoming(phase: Phase, misled: bool, m: Move) -> Arrival
         Move::Grant => Arrival::Closed,
         Move::GapNext => gapped(phase),
         Move::Reset => Arrival::Closed,
+        Move::Ask(_) => Arrival::Closed,
+        Move::Decide(_) => Arrival::Closed,
     }
 }
 
@@ -480,4 +517,19 @@ pub(crate) fn reset(n: u8, phase: Phase, c: Cell, won: &[bool; 63]) -> Plan
         return plans::closed(phase, c);
     }
     plans::does(Report::Silent, phase, c, Marking::Won)
+}
+
+// 11. ask
+pub(crate) fn ask(phase: Phase, c: Cell) -> Plan
+    ensures { λ r. ⌜ r ≡ settled phase c (ask phase c) ⌝ }
+{
+    let mode = c.mode;
+    let buffer = c.buffer;
+    if !link::modes::is_rest(mode) {
+        return plans::closed(phase, c);
+    }
+    if is_empty(buffer) {
+        return plans::closed(phase, c);
+    }
+    plans::quietly(phase, cells::set_mode(Mode::Asked, c))
 }

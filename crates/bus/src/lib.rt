@@ -26,6 +26,7 @@ use charts::Phase;
 use charts::Played;
 
 mod actions;
+pub mod asking;
 mod bools;
 pub mod cells;
 mod decide;
@@ -100,6 +101,7 @@ fn carry_out(b: Bus, d: Decoded) -> Played
     let mut holder = b.holder;
     let mut misled = b.misled;
     let concatenated = b.concatenated;
+    let asked = asking::askers(nodes, n);
     let i = decide::aim(n, phase, &pending, d);
     let at = i as usize;
     let node = nodes[at];
@@ -110,6 +112,7 @@ fn carry_out(b: Bus, d: Decoded) -> Played
         n,
         phase,
         concatenated,
+        0 < asked,
         i,
         c,
         &won,
@@ -201,13 +204,14 @@ pub fn aim(n: u8, phase: Phase, pending: &[bool; 63], a: Action) -> Aimed
     }
 }
 
-// What `advance` makes of that node, whose cell is c, by a table of the reception chart. (proofs/InPlace.antt: carrying the plan out on the arrays, with the chart's own
+// What `advance` makes of that node, whose cell is c, where `asked` says whether some node is Asked, by a table of the reception chart. (proofs/InPlace.antt: carrying the plan out on the arrays, with the chart's own
 // table, is `advance`.) A player takes the table once, and lends it with each action.
 pub fn plan(
     table: &[u16; 350],
     n: u8,
     phase: Phase,
     concatenated: bool,
+    asked: bool,
     i: u8,
     c: Cell,
     won: &[bool; 63],
@@ -215,9 +219,21 @@ pub fn plan(
     holder: &[bool; 63],
     d: Decoded,
 ) -> Plan
-    ensures { λ r. ⌜ r ≡ tried (heardBy (now (table .entry))) n phase concatenated i c (mark (now (won .entry))) (mark (now (pending .entry))) (mark (now (holder .entry))) d ⌝ }
+    ensures { λ r. ⌜ r ≡ tried (heardBy (now (table .entry))) n phase concatenated asked i c (mark (now (won .entry))) (mark (now (pending .entry))) (mark (now (holder .entry))) d ⌝ }
 {
-    decide::decide(table, n, phase, concatenated, i, c, won, pending, holder, d)
+    decide::decide(
+        table,
+        n,
+        phase,
+        concatenated,
+        asked,
+        i,
+        c,
+        won,
+        pending,
+        holder,
+        d,
+    )
 }
 
 // Clears the marks of all nodes if it is asked; a bus has at most 63 of them.

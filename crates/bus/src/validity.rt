@@ -65,6 +65,7 @@ fn mode_fits(mode: Mode) -> bool
         Mode::Holding => true,
         Mode::Spurious => true,
         Mode::Listening => true,
+        Mode::Asked => true,
     }
 }
 

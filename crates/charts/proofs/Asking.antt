@@ -1,10 +1,10 @@
 -- Asking and deciding as two moves (specs/Asking.antt): Asked stays on every signal, kinds 4 to 10 are refused while a node is Asked, and kind 11 with at once kind 12 of the same node
 -- does what kind 2 does. And a loser of kind 2 is left as it was.
 use mathlib.Core.Path.{_≡_, refl, sym, ap, subst, _∙_, fun-ext}
-use mathlib.Core.Bool.{Bool, true, false, cond, not}
+use mathlib.Core.Bool.{Bool, true, false, cond, not, Bool·beq}
 use Prim.Native.Nat.{ℕ, _<_}
 use lib.Dec.{eqb, ltb}
-use borrow.Author.Tests.{eqb-true, lt-ltb}
+use borrow.Author.Tests.{eqb-true, ltb-true, lt-ltb}
 use Rattle.charts.specs.declared.Mode.{Mode}
 use Rattle.charts.specs.declared.Report.the-variants.{Silent}
 use Rattle.charts.specs.declared.Buffer.{Buffer}
@@ -21,16 +21,17 @@ use Rattle.charts.specs.Modes.{isRest}
 use Rattle.charts.specs.Reception.{hears}
 use Rattle.charts.specs.State.{State, setMode, isEmpty, moved, remarked}
 use Rattle.charts.specs.Actions.{Outcome, closed, does, when, loses, decided, arbitrate, asks, ask, decide, waitsForAsked, outcome}
-use Rattle.charts.specs.Records.{clean, moveOf, read}
+use Rattle.charts.specs.Records.{isKind, clean, moveOf, read}
 use Rattle.charts.specs.Valid.{valid}
 use Rattle.charts.specs.Demand.{isOpen}
 use Rattle.charts.specs.Asking.{ofNode, AskedStays, AskThenDecide}
 use Rattle.charts.specs.Step.{someAsked, Result, Event, carryOut, play, look, stepWith, step, isAccepted}
-use Rattle.charts.proofs.Tools.{never, clash, implies, implied, by-test, upd-same, table-at}
+use Rattle.charts.proofs.Tools.{never, clash, implies, implied, and-true, beq-eq, by-test, upd-same, table-at}
 use Rattle.charts.proofs.Places.{mode-is}
 use Rattle.charts.proofs.Steps.{Stepped, refused, acts, stepped}
 use Rattle.charts.proofs.Validity.{valid-is, valid-kept}
 use Rattle.charts.proofs.Open.{read-decide}
+use Rattle.charts.proofs.Askers.{isAsk, isDecide}
 
 -- "Asked stays on every signal"
 pub asked-stays : AskedStays hears
@@ -41,13 +42,26 @@ asked-stays me label g = refl
 pub lost-stays : (c : Cell) → isRest (c .mode) ≡ true → loses c ≡ c
 lost-stays c e = ap (λ (m : Mode). setMode m c) (sym (mode-is (c .mode) P.rest (eqb-true _ _ e)))
 
--- "While a node is Asked, kinds 4 to 10 are not open", by the kinds of the records
-waits-kind : (a : Action) → 3 < a .kind → a .kind < 11 → waitsForAsked (moveOf a) ≡ true
-unfolding moveOf
-waits-kind a h l = implied (ltb 3 (a .kind)) _ (table-at (λ k. implies (ltb 3 k) (waitsForAsked (moveOf (of-kind k)))) 11 tt (a .kind) l) (lt-ltb 3 (a .kind) h)
-  where
-    of-kind : ℕ → Action
-    of-kind k = record { kind = k; node = a .node; address = a .address; ack = a .ack; hold = a .hold; label = a .label; byte6 = a .byte6; byte7 = a .byte7; header = a .header; datum = a .datum }
+-- what holds of the move of each kind holds of the records of that kind
+module _ (a : Action) where
+  of-kind : ℕ → Action
+  of-kind k = record { kind = k; node = a .node; address = a .address; ack = a .ack; hold = a .hold; label = a .label; byte6 = a .byte6; byte7 = a .byte7; header = a .header; datum = a .datum }
+
+  -- "While a node is Asked, kinds 4 to 10 are not open"
+  waits-kind : 3 < a .kind → a .kind < 11 → waitsForAsked (moveOf a) ≡ true
+  unfolding moveOf of-kind
+  waits-kind h l = implied (ltb 3 (a .kind)) _ (table-at (λ k. implies (ltb 3 k) (waitsForAsked (moveOf (of-kind k)))) 11 tt (a .kind) l) (lt-ltb 3 (a .kind) h)
+
+  -- kinds 11 and 12
+  pub asks-kind : isKind (a .kind) ≡ true → isAsk (moveOf a) ≡ eqb (a .kind) 11
+  unfolding moveOf of-kind
+  asks-kind h = beq-eq _ _ (table-at (λ k. Bool·beq (isAsk (moveOf (of-kind k))) (eqb k 11)) 13 tt (a .kind) (ltb-true _ 13 (and-true (ltb 0 (a .kind)) _ h .1)))
+
+  pub decides-kind : isKind (a .kind) ≡ true → isDecide (moveOf a) ≡ eqb (a .kind) 12
+  unfolding moveOf of-kind
+  decides-kind h =
+      let z = and-true (ltb 0 (a .kind)) _ h in
+      beq-eq _ _ (implied (ltb 0 (a .kind)) _ (table-at (λ k. implies (ltb 0 k) (Bool·beq (isDecide (moveOf (of-kind k))) (eqb k 12))) 13 tt (a .kind) (ltb-true _ 13 (z .1))) (z .0))
 
 bars : (s : State) → someAsked s ≡ true → (a : Action) → 3 < a .kind → a .kind < 11 → isOpen s a ≡ false
 bars s e a h l = go (stepped s a)

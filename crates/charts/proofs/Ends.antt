@@ -11,7 +11,7 @@ use Rattle.charts.specs.declared.Phase.{Phase}
 use Rattle.charts.specs.declared.Phase.the-variants.{Idle, Busy, Delivering, Granting, Gapping}
 use Rattle.charts.specs.declared.Cell.{Cell}
 use Rattle.charts.specs.declared.Action.{Action}
-use Rattle.charts.specs.State.{State, isIdle}
+use Rattle.charts.specs.State.{State, askers, isIdle}
 use Rattle.charts.specs.Records.{moveOf}
 use Rattle.charts.specs.Step.{Result, step, after, Event, eventOf, isAccepted}
 use Rattle.charts.specs.Demand.{one, forward, isOpen, acceptedOf, allForward, meetsIdle, bound}
@@ -19,7 +19,7 @@ use Rattle.charts.proofs.Tools.{and-true, or-false, pick, table-at, mem
 use Rattle.charts.proofs.Steps.{Stepped, refused, acts, stepped}
 use Rattle.charts.proofs.Stages.{rowAt, turnAt, talks, clears, Stage, weights, bonus, clearRank, rank}
 use Rattle.charts.proofs.Reach.{Reach, toGo}
-use Rattle.charts.proofs.Sums.{total-le, weigh-le, left-pos, left-lt, undecided-le}
+use Rattle.charts.proofs.Sums.{total-le, weigh-le, left-pos, left-lt, count-le}
 use Rattle.charts.proofs.Progress.{effect-reach}
 use Rattle.charts.specs.Modes as P
 use Rattle.charts.proofs.Places.{stepOf}
@@ -90,4 +90,4 @@ meets s r c f g = go (meetsIdle s c) refl
   where
     go : (b : Bool) → meetsIdle s c ≡ b → b ≡ true
     go true e = refl
-    go false e = absurd (omega (arith, shorter s r c f e, rank-le (s .concatenated) (s .phase) (s .n) (s .cell) (r .two) (r .stage), undecided-le (s .cell) (s .n)))
+    go false e = absurd (omega (arith, shorter s r c f e, rank-le (s .concatenated) (s .phase) (s .n) (s .cell) (r .two) (r .stage), count-le (askers (s .cell)) (s .n)))

@@ -2,6 +2,7 @@ pub mod Tools
 pub mod Places
 pub mod Ways
 pub mod Steps
+pub mod Askers
 pub mod Stages
 pub mod Reach
 pub mod Sums

@@ -27,17 +27,18 @@ use Rattle.charts.specs.Signals as S
 use Rattle.charts.specs.Signals.{kindOf, isEnd}
 use Rattle.charts.specs.Places.{stepIn, holdIn}
 use Rattle.charts.specs.Reception.{hears}
-use Rattle.charts.specs.State.{State, pendings, holders, upd, some, others, lowest, every, moved, concatenatedAfter, remarked, askers, isIdle, isEmpty}
+use Rattle.charts.specs.State.{State, pendings, holders, upd, some, others, lowest, every, moved, concatenatedAfter, remarked, isIdle}
 use Rattle.charts.specs.Actions.{receives, does, firstOther, nextOther, putsOut, freed, afterFree, onward, granted, afterGrant, mayAnswer, markingBy}
 use Rattle.charts.specs.Demand.{forward, one}
 use Rattle.charts.proofs.Tools.{never, clash, implies, implied, not-implied, and-true, neither, or-true, pick-by, at-upd, at-upd≢, upd-same, upd-other, upd-map, none-of, some-at, some-agree, others-off, lowest-of, lowest-lt, table-at, mem, everyIn, mem-sub, not-mem-sub, mem-two, pick, by-test, both, beq-eq}
-use Rattle.charts.proofs.Places.{law, law-mode, owing, active, owes, acts, gap-owes, stepOf, no-hold, hears-no-hold, place-lt, sendingAt, ackingAt, resting, hears-unasked}
+use Rattle.charts.proofs.Places.{law, law-mode, owing, active, owes, acts, gap-owes, stepOf, no-hold, hears-no-hold, place-lt, sendingAt, ackingAt, resting}
 use Rattle.charts.proofs.Ways.{afterGap, passed-by, Puts, start, dhead, dest, header, datum, end-all, end-one, filler, ack-start, ack-body, ack-hold, ack-end, holds-on, Arrives, passes, redirects, bad-header, bad-data, bad-ack, Effect, waits, replies, wins, loses, gives, puts, frees, arrives, is-lost, grants, grants-none, gaps, settles, resets, at-once, asked, contends-rests, claims}
 use Rattle.charts.proofs.Steps.{remarked-n}
+use Rattle.charts.proofs.Askers.{unasked, not-ask, asking}
 use Rattle.charts.proofs.Stages.{rowAt, roundOf, fillerOf, Turn, turnAt, packetRead, quiet, waiting, ended, answering, requesting, reading, grantSteps, clearSteps, acting, Sole, Delivery, Talk, Clear, BusyAt, talks, clears, GrantingAt, GappingAt, IdleAt, Stage, weigh, weights, total, left, bonus, rowRank, turnRank, clearRank, busyRank, rank, Lands, heard-lands, lost-lands, Row, undecided}
 use Rattle.charts.proofs.Reach.{Marks, Reach, low-places, low-place, step-place, passive-steps, is-talker, turn-fact, no-turn, sole-quiet, Ready, toGo, is-passive}
 use Rattle.charts.proofs.Sums.{total-gap, total-agree, total-one, total-sole, weigh-le, weights-upd, next-apart, next-past, next-past-j, left-pos, left-lt, left-next, first-lt, first-apart, first-none, undecided-upd}
-use Rattle.charts.specs.Step.{someAsked, mayAct}
+use Rattle.charts.specs.Step.{mayAct}
 
 -- an action leads to a stage; a forward one to a stage with less left than r
 pub record Goes (fwd : Bool) (r : ℕ) (b : Bool) (p : Phase) (n : ℕ) (f : ℕ → Cell) : Type 0 where
@@ -210,28 +211,21 @@ is-granted : (m : Mode) → (placeOf m ≡ P.owed) ⊎ (placeOf m ≡ P.told) �
 is-granted m (inl e) = let g = granted-owed m e in record { frees = ap (λ m. owing (placeOf m)) g; holds = ap (λ m. active (placeOf m)) g; step = ap (λ m. mem (stepOf m) (P.answering ∷ P.spurious ∷ [])) g; lighter = ap weigh e ∙ sym (ap (λ m. weigh (placeOf m) + 1) g) }
 is-granted m (inr e) = let g = granted-told m e in record { frees = ap (λ m. owing (placeOf m)) g; holds = ap (λ m. active (placeOf m)) g; step = ap (λ m. mem (stepOf m) (P.answering ∷ P.spurious ∷ [])) g; lighter = ap weigh e ∙ sym (ap (λ m. weigh (placeOf m) + 1) g) }
 
--- MARKS. What a holder puts out leaves its marks right: it owed nothing, and it goes on acting unless it put out an End; and it is not Asked then
-puts-marks : (i : ℕ) (p : Packet) (m : Mode) (g : Signal) (m′ : Mode) (r : Report) → Puts i p m g m′ r → (owing (placeOf m) ≡ false) × (owing (placeOf m′) ≡ false) × (not (isEnd g) ≡ active (placeOf m′)) × (isAsked m′ ≡ false)
-puts-marks i p m g m′ r start = (refl, refl, refl, refl)
-puts-marks i p m g m′ r dhead = (refl, refl, refl, refl)
-puts-marks i p m g m′ r dest = (refl, refl, refl, refl)
-puts-marks i p m g m′ r header = (refl, refl, refl, refl)
-puts-marks i p m g m′ r datum = (refl, refl, refl, refl)
-puts-marks i p m g m′ r (end-all l e) = (refl, refl, refl, refl)
-puts-marks i p m g m′ r (end-one l e) = (refl, refl, refl, refl)
-puts-marks i p m g m′ r filler = (refl, refl, refl, refl)
-puts-marks i p m g m′ r ack-start = (refl, refl, refl, refl)
-puts-marks i p m g m′ r ack-body = (refl, refl, refl, refl)
-puts-marks i p m g m′ r (ack-hold l) = (refl, refl, refl, refl)
-puts-marks i p m g m′ r (ack-end l) = (refl, refl, refl, refl)
-puts-marks i p m g m′ r holds-on = (refl, refl, refl, refl)
-
--- kinds 4 to 10 find no node Asked, and leave none
-unasked : (s : State) → not (someAsked s) ≡ true → (i : ℕ) → i < s .n → isAsked (s .cell i .mode) ≡ false
-unasked s u = none-of (askers (s .cell)) (s .n) (not-true _ u)
-
-granted-unasked : (m : Mode) → isAsked m ≡ false → isAsked (granted m) ≡ false
-granted-unasked m e = pick (λ x. isAsked x ≡ false) (isTold m) _ _ refl (pick (λ x. isAsked x ≡ false) (isOwed m) _ _ refl e)
+-- MARKS. What a holder puts out leaves its marks right: it owed nothing, and it goes on acting unless it put out an End
+puts-marks : (i : ℕ) (p : Packet) (m : Mode) (g : Signal) (m′ : Mode) (r : Report) → Puts i p m g m′ r → (owing (placeOf m) ≡ false) × (owing (placeOf m′) ≡ false) × (not (isEnd g) ≡ active (placeOf m′))
+puts-marks i p m g m′ r start = (refl, refl, refl)
+puts-marks i p m g m′ r dhead = (refl, refl, refl)
+puts-marks i p m g m′ r dest = (refl, refl, refl)
+puts-marks i p m g m′ r header = (refl, refl, refl)
+puts-marks i p m g m′ r datum = (refl, refl, refl)
+puts-marks i p m g m′ r (end-all l e) = (refl, refl, refl)
+puts-marks i p m g m′ r (end-one l e) = (refl, refl, refl)
+puts-marks i p m g m′ r filler = (refl, refl, refl)
+puts-marks i p m g m′ r ack-start = (refl, refl, refl)
+puts-marks i p m g m′ r ack-body = (refl, refl, refl)
+puts-marks i p m g m′ r (ack-hold l) = (refl, refl, refl)
+puts-marks i p m g m′ r (ack-end l) = (refl, refl, refl)
+puts-marks i p m g m′ r holds-on = (refl, refl, refl)
 
 module _ (s : State) (v : Reach s) where
   abbrev n : ℕ
@@ -264,25 +258,6 @@ module _ (s : State) (v : Reach s) where
   own-marks m i r p c x (gaps q u) = (ms i .0 ∙ sym (gap-owes i _ (s .cell i .mode)), ms i .1 ∙ sym (acts i _ (s .cell i .mode) Gap))
   own-marks m i r p c x (settles q u) = (ms i .0 ∙ sym (gap-owes i _ (s .cell i .mode)), ms i .1 ∙ sym (acts i _ (s .cell i .mode) Gap))
   own-marks m i r p c x (resets q) = ms i
-
-  -- who is Asked after an action has just asked, with a full buffer: no other action leaves its node Asked
-  now-asked : (m : Move) (i : ℕ) (r : Report) (p : Phase) (c : Cell) (x : Marking) → i < s .n → mayAct s m ≡ true → Effect s m i (does r p c x) →
-      (isAsked (c .mode) ≡ false) ⊎ ((forward s m ≡ false) × (isEmpty (c .buffer) ≡ false))
-  now-asked m i r p c x l u (waits e f) = inl (ap (λ p. eqb p P.asked) e)
-  now-asked m i r p c x l u (replies e) = inl refl
-  now-asked m i r p c x l u (claims e f) = inr (refl, f)
-  now-asked m i r p c x l u (wins d q f w) = inl refl
-  now-asked m i r p c x l u (loses d) = inl refl
-  now-asked m i r p c x l u (gives e z) = inl refl
-  now-asked m i r p c x l u (puts {g = g} {m = m′} q h o y) = inl (puts-marks i (s .cell i .sending) (s .cell i .mode) g m′ r y .3)
-  now-asked m i r p c x l u (frees q h e) = inl refl
-  now-asked m i r p c x l u (arrives {t = t} q y) = inl (hears-unasked i _ (s .cell i .mode) t (unasked s u i l))
-  now-asked m i r p c x l u (is-lost q e) = inl (unasked s u i l)
-  now-asked m i r p c x l u (grants q e z) = inl (granted-unasked (s .cell i .mode) (unasked s u i l))
-  now-asked m i r p c x l u (grants-none q e) = inl (unasked s u i l)
-  now-asked m i r p c x l u (gaps q z) = inl (hears-unasked i _ (s .cell i .mode) Gap (unasked s u i l))
-  now-asked m i r p c x l u (settles q z) = inl (hears-unasked i _ (s .cell i .mode) Gap (unasked s u i l))
-  now-asked m i r p c x l u (resets q) = inl (unasked s u i l)
 
   pub marks-kept : (m : Move) (i : ℕ) (r : Report) (p : Phase) (c : Cell) (x : Marking) → Effect s m i (does r p c x) → (k : ℕ) → Marks (remarked x (moved s p i c) .cell k)
   marks-kept m i r p c x y = remarked-marks x (moved s p i c) (λ k. at-upd (λ k c. Marks c) (s .cell) i c k (own-marks m i r p c x y) (ms k))
@@ -1162,21 +1137,13 @@ module _ (s : State) (v : Reach s) where
       (u : Reach (remarked x (moved s p i c))) × (forward s m ≡ true → isIdle (s .phase) ≡ false → toGo (remarked x (moved s p i c)) u < toGo s v)
   effect-reach m i r p c x l u y =
       let g = remarked-goes x (moved s p i c) (counting m) (left-with i) (moves-on m i r p c x l u y) in
-      let z = now-asked s v m i r p c x l u y in (
+      let z = asking s m i r p c x l u y in (
         record {
           two = subst (λ n. 2 ≤ n) (sym (remarked-n x (moved s p i c))) (v .two);
           marks = marks-kept s v m i r p c x y;
-          ready = remarked-ready x (moved s p i c) (λ k. at-upd (λ k c. Ready c) (s .cell) i c k (full z) (v .ready k));
+          ready = remarked-ready x (moved s p i c) (λ k. at-upd (λ k c. Ready c) (s .cell) i c k (λ q. z .full (sym (z .now) ∙ q)) (v .ready k));
           stage = g .stage;
           last = last-kept s v m i r p c x l y;
         },
-        λ f q. omega (arith, g .lower (both _ _ f (ap not q)), remarked-undecided x (moved s p i c), undecided-upd (s .cell) i c (s .n) l, gone z f),
+        λ f q. omega (arith, g .lower (both _ _ f (ap not q)), remarked-undecided x (moved s p i c), undecided-upd (s .cell) i c (s .n) l, ap one (z .now ∙ not-ask s m f)),
       )
-    where
-      full : (isAsked (c .mode) ≡ false) ⊎ ((forward s m ≡ false) × (isEmpty (c .buffer) ≡ false)) → Ready c
-      full (inl e) q = clash _ q e
-      full (inr e) q = e .1
-
-      gone : (isAsked (c .mode) ≡ false) ⊎ ((forward s m ≡ false) × (isEmpty (c .buffer) ≡ false)) → forward s m ≡ true → one (isAsked (c .mode)) ≡ 0
-      gone (inl e) f = ap one e
-      gone (inr e) f = clash _ f (e .0)

@@ -20,10 +20,9 @@ use Rattle.charts.specs.Signals as S
 use Rattle.charts.specs.Signals.{classOf, kindOf}
 use Rattle.charts.specs.Reception.{hears}
 use Rattle.charts.specs.Table.{entry}
-use Rattle.charts.specs.State.{pendings, some, every, askers}
+use Rattle.charts.specs.State.{pendings, some, count, every, askers}
 use Rattle.charts.proofs.Tools.{implies, implied, not-implied, and-true, both, pick, table-at, everyPair, mem, everyIn, mem-sub}
 use Rattle.charts.proofs.Places.{law, active, sendingAt, ackingAt, stepOf, resting}
-use Rattle.charts.specs.Demand.{one}
 
 -- A signal under way: its kind, its round, the steps of its sender, the places of the other nodes before and after they heard it.
 -- At most one of the others stands in a place of `sole`: the requester, and in the packet of round 1 the node that reads it, who was the requester of round 0.
@@ -286,7 +285,7 @@ rank b (Gapping j) n f a = n - j
 
 -- and 1 for each node that is Asked, at every stage: it is to be decided before anything else goes on
 abbrev pub undecided : (ℕ → Cell) → ℕ → ℕ
-undecided f n = total (λ k. one (askers f k)) n
+undecided f n = count (askers f) n
 
 -- The classes in which a signal of a kind can arrive
 abbrev pub arrivals : List (List ℕ)

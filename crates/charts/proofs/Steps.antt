@@ -21,7 +21,7 @@ use Rattle.charts.specs.declared.Decoded.{Decoded}
 use Rattle.charts.specs.declared.Decoded.the-variants.{Refused, Accepted}
 use Rattle.charts.specs.Numbers as N
 use Rattle.charts.specs.State.{State, pendings, remarked}
-use Rattle.charts.specs.Actions.{Outcome, closed, does, nextOf, when}
+use Rattle.charts.specs.Actions.{Outcome, closed, does, nextOf, target, when}
 use Rattle.charts.specs.Records.{isKind, namesNode, namesAddress, clean, isAddress, isLabel, moveOf, badNode, badAddress, badLabel, badAnswer, read}
 use Rattle.charts.specs.Valid.{isSize, isAck, packetFits, phaseFits, cellFits, valid}
 use Rattle.charts.specs.Step.{Result, refuses, carryOut, about, play, look, stepWith, step, after, Event, refusal, accepted, eventOf, outcomeOf, mayAct}
@@ -114,17 +114,20 @@ next-lt n (Delivering i g j) h e = ltb-true j n (and-true (ltb j n) _ (and-true 
 next-lt n Granting h e = omega arith
 next-lt n (Gapping j) h e = ltb-true j n e
 
-pub about-lt : (s : State) → Valid s → (m : Move) → Known (s .n) m → about s m < s .n
-about-lt s v (Request i p) k = k .0
-about-lt s v (Arbitrate i) k = k
-about-lt s v (Respond i a h) k = k .0
-about-lt s v (Clock i) k = k
-about-lt s v (Carry w) k = next-lt (s .n) (s .phase) (v .two) (v .phase-fits)
-about-lt s v Grant k = lowest-below (pendings (s .cell)) (s .n) 0 (s .n) (omega arith) (omega (arith, v .two))
-about-lt s v GapNext k = next-lt (s .n) (s .phase) (v .two) (v .phase-fits)
-about-lt s v Reset k = omega (arith, v .two)
-about-lt s v (Ask i) k = k
-about-lt s v (Decide i) k = k
+pub target-lt : (n : ℕ) (p : Phase) (ps : ℕ → Bool) → 2 ≤ n → phaseFits n p ≡ true → (m : Move) → Known n m → target n p ps m < n
+target-lt n p ps h e (Request i q) k = k .0
+target-lt n p ps h e (Arbitrate i) k = k
+target-lt n p ps h e (Respond i a hold) k = k .0
+target-lt n p ps h e (Clock i) k = k
+target-lt n p ps h e (Carry w) k = next-lt n p h e
+target-lt n p ps h e Grant k = lowest-below ps n 0 n (omega arith) (omega arith)
+target-lt n p ps h e GapNext k = next-lt n p h e
+target-lt n p ps h e Reset k = omega arith
+target-lt n p ps h e (Ask i) k = k
+target-lt n p ps h e (Decide i) k = k
+
+about-lt : (s : State) → Valid s → (m : Move) → Known (s .n) m → about s m < s .n
+about-lt s v m k = target-lt (s .n) (s .phase) (pendings (s .cell)) (v .two) (v .phase-fits) m k
 
 -- a step's answer with its event
 pub data Stepped (s : State) (a : Action) : Result → Event → Type 0 where

@@ -1,7 +1,7 @@
 -- Sums over the nodes, and the receivers left of a delivery.
 use mathlib.Core.Path.{_≡_, refl, sym, ap, subst, _∙_}
 use mathlib.Core.Logic.{_≢_, _⊎_, inl, inr}
-use mathlib.Core.Bool.{Bool, true, false, cond}
+use mathlib.Core.Bool.{Bool, true, false, cond, _||_}
 use Prim.Native.Nat.{ℕ, zero, suc, _<_, _≤_, _+_, _-_, _*_}
 use native.Mathlib.Omega.{arith}
 use lib.Dec.{eqb, ltb}
@@ -9,7 +9,7 @@ use borrow.Author.Tests.{eqb-true, eqb-false, ltb-true, ltb-false, lt-ltb, le-lt
 use Rattle.charts.specs.declared.Mode.{Mode}
 use Rattle.charts.specs.declared.Cell.{Cell}
 use Rattle.charts.specs.Modes.{placeOf, isAsked}
-use Rattle.charts.specs.State.{upd}
+use Rattle.charts.specs.State.{upd, some, askers, count}
 use Rattle.charts.specs.Actions.{firstOther, nextOther}
 use Rattle.charts.proofs.Tools.{pick-by, by-test, upd-same, upd-other, pick}
 use Rattle.charts.specs.Demand.{one}
@@ -65,7 +65,7 @@ pub weigh-le : (m : Mode) → weigh (placeOf m) ≤ 2
 weigh-le m = leb-true _ 2 (law-mode (λ p. lib.Dec.leb (weigh p) 2) tt m)
 
 -- a sum over the cells after another cell at i: of the weights, and of the nodes that are Asked
-pub sum-upd : (h : Cell → ℕ) (f : ℕ → Cell) (i : ℕ) (c : Cell) (n : ℕ) → i < n → total (λ k. h (upd f i c k)) n + h (f i) ≡ total (λ k. h (f k)) n + h c
+sum-upd : (h : Cell → ℕ) (f : ℕ → Cell) (i : ℕ) (c : Cell) (n : ℕ) → i < n → total (λ k. h (upd f i c k)) n + h (f i) ≡ total (λ k. h (f k)) n + h c
 sum-upd h f i c n l =
     total-diff (λ k. h (upd f i c k)) (λ k. h (f k)) i n (λ k z q. ap h (upd-other f i c k q)) l
     ∙ ap (λ d. total (λ k. h (f k)) n + h d) (upd-same f i c)
@@ -73,12 +73,26 @@ sum-upd h f i c n l =
 pub weights-upd : (f : ℕ → Cell) (i : ℕ) (c : Cell) (n : ℕ) → i < n → total (weights (upd f i c)) n + weights f i ≡ total (weights f) n + weigh (placeOf (c .mode))
 weights-upd f i c n l = sum-upd (λ d. weigh (placeOf (d .mode))) f i c n l
 
-pub undecided-upd : (f : ℕ → Cell) (i : ℕ) (c : Cell) (n : ℕ) → i < n → undecided (upd f i c) n + one (isAsked (f i .mode)) ≡ undecided f n + one (isAsked (c .mode))
-undecided-upd f i c n l = sum-upd (λ d. one (isAsked (d .mode))) f i c n l
+-- a count is a sum of ones and zeros
+count-total : (f : ℕ → Bool) (n : ℕ) → count f n ≡ total (λ k. one (f k)) n
+count-total f zero = refl
+count-total f (suc n) = ap (λ x. x + one (f n)) (count-total f n)
 
-pub undecided-le : (f : ℕ → Cell) (n : ℕ) → undecided f n ≤ n
-undecided-le f zero = omega arith
-undecided-le f (suc n) = omega (arith, undecided-le f n, pick (λ x. x ≤ 1) (isAsked (f n .mode)) 1 0 (omega arith) (omega arith))
+pub undecided-upd : (f : ℕ → Cell) (i : ℕ) (c : Cell) (n : ℕ) → i < n → undecided (upd f i c) n + one (isAsked (f i .mode)) ≡ undecided f n + one (isAsked (c .mode))
+undecided-upd f i c n l = omega (arith, count-total (askers (upd f i c)) n, count-total (askers f) n, sum-upd (λ d. one (isAsked (d .mode))) f i c n l)
+
+pub count-le : (f : ℕ → Bool) (n : ℕ) → count f n ≤ n
+count-le f zero = omega arith
+count-le f (suc n) = omega (arith, count-le f n, pick (λ x. x ≤ 1) (f n) 1 0 (omega arith) (omega arith))
+
+-- none is counted where none is
+pub count-some : (f : ℕ → Bool) (n : ℕ) → ltb 0 (count f n) ≡ some f n
+count-some f zero = refl
+count-some f (suc n) = go (f n) (count-some f n)
+  where
+    go : (b : Bool) → ltb 0 (count f n) ≡ some f n → ltb 0 (count f n + cond b 1 0) ≡ b || some f n
+    go true e = lt-ltb 0 (count f n + 1) (omega arith)
+    go false e = let z : count f n + 0 ≡ count f n = omega arith in ap (λ x. ltb 0 x) z ∙ e
 
 -- the next receiver after j
 pub next-is : (w j : ℕ) → ((suc j ≡ w) × (nextOther w j ≡ suc (suc j))) ⊎ ((suc j ≢ w) × (nextOther w j ≡ suc j))

@@ -1,6 +1,6 @@
 -- The state that the charts speak of: the nodes' records and marks as a function from numbers to cells. (View.antt shows the code's record as such a state.)
 use mathlib.Core.Bool.{Bool, true, false, cond, _&&_, _||_, not}
-use Prim.Native.Nat.{ℕ, zero, suc}
+use Prim.Native.Nat.{ℕ, zero, suc, _+_}
 use lib.Dec.{eqb, ltb}
 use Rattle.charts.specs.declared.Mode.{Mode}
 use Rattle.charts.specs.declared.Mode.the-variants.{Rest}
@@ -70,6 +70,11 @@ some f (suc n) = f n || some f n
 
 abbrev pub others : (ℕ → Bool) → ℕ → ℕ → Bool
 others f i n = some (upd f i false) n
+
+-- at how many of the n numbers below f holds
+abbrev pub count : (ℕ → Bool) → ℕ → ℕ
+count f zero = 0
+count f (suc n) = count f n + cond (f n) 1 0
 
 -- f holds at each of the n numbers below
 abbrev pub every : (ℕ → Bool) → ℕ → Bool

@@ -55,6 +55,7 @@ pub(crate) fn play_actions(
     let n = b.n;
     let mut phase = b.phase;
     let mut nodes = b.nodes;
+    let mut asked = bus::asking::askers(nodes, n);
     let mut won = b.won;
     let mut pending = b.pending;
     let mut holder = b.holder;
@@ -75,6 +76,7 @@ pub(crate) fn play_actions(
             n,
             phase,
             concatenated,
+            0 < asked,
             aimed.node,
             c,
             &won,
@@ -114,6 +116,7 @@ pub(crate) fn play_actions(
         }
         let report = plan.report;
         end = transcript::put_line(out, end, index, a.kind, report);
+        asked = bus::asking::askers_after(asked, a.kind);
         k += 1;
     }
     let then = Bus {
