@@ -19,7 +19,7 @@ use Rattle.charts.specs.declared.Arrival.{Arrival}
 use Rattle.charts.specs.declared.Arrival.the-variants.{Closed, Lost, Hears}
 use Rattle.charts.specs.declared.Marking.the-variants as M
 use Rattle.charts.specs.declared.Move.{Move}
-use Rattle.charts.specs.declared.Move.the-variants.{Request, Arbitrate, Respond, Clock, Carry, Grant, GapNext, Reset}
+use Rattle.charts.specs.declared.Move.the-variants.{Request, Arbitrate, Respond, Clock, Carry, Grant, GapNext, Reset, Ask, Decide}
 use Rattle.charts.specs.Signals.{isEnd}
 use Rattle.charts.specs.Reception.{Reception}
 use Rattle.charts.specs.Arrivals.{arrives}
@@ -79,3 +79,5 @@ module _ (h : Reception) (n : ℕ) (c : Cell) (ps : ℕ → Bool) where
   heard-is p b i ws hs Grant k = absurd (miss (4 ∷ 6 ∷ []) 5 tt k)
   heard-is p b i ws hs GapNext k = gap-is p
   heard-is p b i ws hs Reset k = absurd (miss (4 ∷ 6 ∷ []) 7 tt k)
+  heard-is p b i ws hs (Ask j) k = absurd (miss (4 ∷ 6 ∷ []) 8 tt k)
+  heard-is p b i ws hs (Decide j) k = absurd (miss (4 ∷ 6 ∷ []) 9 tt k)

@@ -1,7 +1,9 @@
 pub mod MarkLaws
 pub mod PhaseLaws
 pub mod Got
+pub mod Decided
 pub mod ReadLaws
 pub mod ViewLaws
 pub mod Advances
 pub mod InPlace
+pub mod Counts

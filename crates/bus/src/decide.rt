@@ -128,7 +128,7 @@ pub(crate) fn decide(
     if !validity::is_ready(n, phase, i) {
         return plans::refuse(NOT_VALID, phase, c);
     }
-    if bools::both(asked, waits_for_asked(m)) {
+    if bools::both(waits_for_asked(m), asked) {
         return plans::closed(phase, c);
     }
     play(table, n, phase, concatenated, i, c, won, pending, holder, m)

@@ -175,7 +175,7 @@ remarked-ready M.Misled t m k = m k
 remarked-ready M.Won t m k = m k
 remarked-ready (M.Concatenated b) t m k = m k
 
-remarked-undecided : (x : Marking) (t : State) → undecided (remarked x t .cell) (remarked x t .n) ≡ undecided (t .cell) (t .n)
+pub remarked-undecided : (x : Marking) (t : State) → undecided (remarked x t .cell) (remarked x t .n) ≡ undecided (t .cell) (t .n)
 remarked-undecided M.Nothing t = refl
 remarked-undecided M.Misled t = refl
 remarked-undecided M.Won t = refl

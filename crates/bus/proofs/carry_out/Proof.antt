@@ -1,11 +1,14 @@
+use lib.Dec.{ltb}
 use Rattle.charts.specs.View.{Sized}
 use Rattle.bus.proofs.ViewLaws.{length-mapped}
 use Rattle.bus.proofs.InPlace.{carries}
+use Rattle.bus.proofs.Counts.{counted-asked}
 use borrow.Author.Needs.{needs}
 use Rattle.bus.proofs.carry_out.Statement.{statement}
 use Rattle.bus.proofs.carry_out.Tie as tie
 use Rattle.bus.proofs.carry_out.Lts as lts
 use Rattle.bus.proofs.carry_out.Reads as reads
+use Rattle.bus.proofs.asking.askers.Reads as askers-reads
 use Rattle.bus.proofs.decide.aim.Reads as aim-reads
 use Rattle.bus.proofs.cells.cell_of.Reads as cell-of-reads
 use Rattle.link.proofs.table.table.Reads as table-reads
@@ -17,11 +20,14 @@ use Rattle.bus.proofs.plans.clears_won.Reads as clears-won-reads
 use Rattle.bus.proofs.plans.concatenated_after.Reads as concatenated-after-reads
 
 -- what owning the record tells of its arrays; stated apart, where little else is known, since the search looks through all of it
-sized : (c : lts.Start (aim-reads.Asked, aim-reads.Learnt, cell-of-reads.Asked, cell-of-reads.Learnt, table-reads.Asked, table-reads.Learnt, decide-reads.Asked, decide-reads.Learnt, node-of-reads.Asked, node-of-reads.Learnt, clears-misled-reads.Asked, clears-misled-reads.Learnt, clear-reads.Asked, clear-reads.Learnt, clears-won-reads.Asked, clears-won-reads.Learnt, concatenated-after-reads.Asked, concatenated-after-reads.Learnt) reads.Pre reads.Post) → Sized (c .args .b)
+sized : (c : lts.Start (askers-reads.Asked, askers-reads.Learnt, aim-reads.Asked, aim-reads.Learnt, cell-of-reads.Asked, cell-of-reads.Learnt, table-reads.Asked, table-reads.Learnt, decide-reads.Asked, decide-reads.Learnt, node-of-reads.Asked, node-of-reads.Learnt, clears-misled-reads.Asked, clears-misled-reads.Learnt, clear-reads.Asked, clear-reads.Learnt, clears-won-reads.Asked, clears-won-reads.Learnt, concatenated-after-reads.Asked, concatenated-after-reads.Learnt) reads.Pre reads.Post) → Sized (c .args .b)
 sized c = record { nodes-size = search (needs, length-mapped); won-size = search needs; pending-size = search needs; holder-size = search (needs, c .good .0 .1 .1 .1 .1); misled-size = search (needs, c .good .0 .1 .1 .1 .1) }
 
+askers-requires : tie.Need-askers-requires
+askers-requires c κs = search needs
+
 aim-requires : tie.Need-aim-requires
-aim-requires c κs = c .before .before .before .before .before .before .pre
+aim-requires c κs = c .before .before .before .before .before .before .before .pre
 
 cast-at : tie.Need-cast-at
 cast-at c = search needs
@@ -91,7 +97,8 @@ concatenated-after-requires c κs = search needs
 
 returns : tie.Need-returns
 returns c =
-    let start = c .before .before .before .before .before .before .before .before .before .before .before .before .before .before .before .before .before .before .before .before .before .before .before .before in
+    let start = c .before .before .before .before .before .before .before .before .before .before .before .before .before .before .before .before .before .before .before .before .before .before .before .before .before in
+    let asked = c .before .before .before .before .before .before .before .before .before .before .before .before .before .before .before .before .before .before .before .askers in
     let aim = c .before .before .before .before .before .before .before .before .before .before .before .before .before .before .before .before .before .aim in
     let cell = c .before .before .before .before .before .before .before .before .before .before .before .before .before .before .before .cell-of in
     let table = c .before .before .before .before .before .before .before .before .before .before .before .before .before .before .table in
@@ -100,7 +107,7 @@ returns c =
     let asks-misled = c .before .before .before .before .before .clears-misled in
     let asks-won = c .before .before .clears-won in
     let own = c .concatenated-after in
-    carries (start .args .b) (start .args .d) (aim .result) (cell .result) (plan .result) (sized start) (start .pre) (aim .ensures .1) (aim .ensures .0) (cell .ensures) (table .result) (table .ensures) (plan .ensures)
+    carries (start .args .b) (start .args .d) (aim .result) (cell .result) (plan .result) (sized start) (start .pre) (aim .ensures .1) (aim .ensures .0) (cell .ensures) (table .result) (table .ensures) (ltb 0 (asked .result)) (counted-asked (start .args .b) (asked .result) (asked .ensures)) (plan .ensures)
     (node .result) (c .before .clear2 .last .0) (c .before .before .before .before .clear .last .0) (asks-won .result) (asks-misled .result) (own .result)
     (node .ensures) (asks-won .ensures) (c .before .clear2 .ensures .1) (asks-misled .ensures) (c .before .before .before .before .clear .ensures .1) (own .ensures)
 
@@ -108,6 +115,7 @@ pub carry-out-spec : {M : Type 1} → statement M
 carry-out-spec =
     tie.close
     (tie.spec
+    askers-requires
     aim-requires
     cast-at
     mul-node

@@ -4,29 +4,20 @@ use borrow.Author.Needs.{needs}
 use Rattle.bus.proofs.actions.contend.Statement.{statement}
 use Rattle.bus.proofs.actions.contend.Tie as tie
 
-is-rest-requires : tie.Need-is-rest-requires
-is-rest-requires c κs = search needs
-
-closed-requires : tie.Need-closed-requires
-closed-requires c κs = search needs
-
-returns : tie.Need-returns
-returns c = simp (← c .before .before .is-rest .ensures, not-true (c .before .before .is-rest .result) (c .before .if1 .taken), c .closed .ensures)
-
 is-idle-requires : tie.Need-is-idle-requires
 is-idle-requires c κs = search needs
 
 lost-requires : tie.Need-lost-requires
 lost-requires c κs = search needs
 
-returns-2 : tie.Need-returns-2
-returns-2 c = rw (c .lost .ensures, (sym (c .before .before .before .before .is-rest .ensures) ∙ not-false (c .before .before .before .before .is-rest .result) (c .before .before .before .if1 .left)), (sym (c .before .before .is-idle .ensures) ∙ not-true (c .before .before .is-idle .result) (c .before .if2 .taken)))
+returns : tie.Need-returns
+returns c = rw (c .lost .ensures, (sym (c .before .before .is-idle .ensures) ∙ not-true (c .before .before .is-idle .result) (c .before .if1 .taken)))
 
 lost-requires-2 : tie.Need-lost-requires-2
 lost-requires-2 c κs = search needs
 
-returns-3 : tie.Need-returns-3
-returns-3 c = rw (c .lost2 .ensures, (sym (c .before .before .before .before .before .is-rest .ensures) ∙ not-false (c .before .before .before .before .before .is-rest .result) (c .before .before .before .before .if1 .left)), (sym (c .before .before .before .is-idle .ensures) ∙ not-false (c .before .before .before .is-idle .result) (c .before .before .if2 .left)), c .before .if3 .taken)
+returns-2 : tie.Need-returns-2
+returns-2 c = rw (c .lost2 .ensures, (sym (c .before .before .before .is-idle .ensures) ∙ not-false (c .before .before .before .is-idle .result) (c .before .before .if1 .left)), c .before .if2 .taken)
 
 win-requires : tie.Need-win-requires
 win-requires c κs = search needs
@@ -34,21 +25,10 @@ win-requires c κs = search needs
 does-requires : tie.Need-does-requires
 does-requires c κs = search needs
 
-returns-4 : tie.Need-returns-4
-returns-4 c = rw (c .does .ensures, c .before .win .ensures, (sym (c .before .before .before .before .before .before .is-rest .ensures) ∙ not-false (c .before .before .before .before .before .before .is-rest .result) (c .before .before .before .before .before .if1 .left)), (sym (c .before .before .before .before .is-idle .ensures) ∙ not-false (c .before .before .before .before .is-idle .result) (c .before .before .before .if2 .left)), c .before .before .if3 .left)
+returns-3 : tie.Need-returns-3
+returns-3 c = rw (c .does .ensures, c .before .win .ensures, (sym (c .before .before .before .before .is-idle .ensures) ∙ not-false (c .before .before .before .before .is-idle .result) (c .before .before .before .if1 .left)), c .before .before .if2 .left)
 
 pub contend-spec : {M : Type 1} → statement M
 contend-spec =
     tie.close
-    (tie.spec
-    is-rest-requires
-    closed-requires
-    returns
-    is-idle-requires
-    lost-requires
-    returns-2
-    lost-requires-2
-    returns-3
-    win-requires
-    does-requires
-    returns-4)
+    (tie.spec is-idle-requires lost-requires returns lost-requires-2 returns-2 win-requires does-requires returns-3)

@@ -32,6 +32,12 @@ gapped-requires c κs = search needs
 enum-told-7 : tie.Need-enum-told-7
 enum-told-7 c = search needs
 
+enum-told-8 : tie.Need-enum-told-8
+enum-told-8 c = search needs
+
+enum-told-9 : tie.Need-enum-told-9
+enum-told-9 c = search needs
+
 returns : tie.Need-returns
 returns c = simp (c .enum-told .given .1)
 
@@ -56,6 +62,12 @@ returns-7 c = simp (c .before .enum-told6 .given .1, c .gapped .ensures)
 returns-8 : tie.Need-returns-8
 returns-8 c = simp (c .enum-told7 .given .1)
 
+returns-9 : tie.Need-returns-9
+returns-9 c = simp (c .enum-told8 .given .1)
+
+returns-10 : tie.Need-returns-10
+returns-10 c = simp (c .enum-told9 .given .1)
+
 pub incoming-spec : {M : Type 1} → statement M
 incoming-spec =
     tie.close
@@ -70,6 +82,8 @@ incoming-spec =
     enum-told-6
     gapped-requires
     enum-told-7
+    enum-told-8
+    enum-told-9
     returns
     returns-2
     returns-3
@@ -77,4 +91,6 @@ incoming-spec =
     returns-5
     returns-6
     returns-7
-    returns-8)
+    returns-8
+    returns-9
+    returns-10)

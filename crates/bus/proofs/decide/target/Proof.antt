@@ -35,6 +35,12 @@ next-of-requires-2 c κs = search needs
 enum-told-4 : tie.Need-enum-told-4
 enum-told-4 c = search needs
 
+enum-known-m-5 : tie.Need-enum-known-m-5
+enum-known-m-5 c = search needs
+
+enum-known-m-6 : tie.Need-enum-known-m-6
+enum-known-m-6 c = search needs
+
 returns : tie.Need-returns
 returns c = simp (c .before .m .given .1)
 
@@ -59,6 +65,12 @@ returns-7 c = simp (c .before .enum-told3 .given .1, c .next-of2 .ensures)
 returns-8 : tie.Need-returns-8
 returns-8 c = simp (c .enum-told4 .given .1)
 
+returns-9 : tie.Need-returns-9
+returns-9 c = simp (c .before .m5 .given .1)
+
+returns-10 : tie.Need-returns-10
+returns-10 c = simp (c .before .m6 .given .1)
+
 pub target-spec : {M : Type 1} → statement M
 target-spec =
     tie.close
@@ -74,6 +86,8 @@ target-spec =
     enum-told-3
     next-of-requires-2
     enum-told-4
+    enum-known-m-5
+    enum-known-m-6
     returns
     returns-2
     returns-3
@@ -81,4 +95,6 @@ target-spec =
     returns-5
     returns-6
     returns-7
-    returns-8)
+    returns-8
+    returns-9
+    returns-10)

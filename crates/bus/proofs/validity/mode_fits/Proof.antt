@@ -87,6 +87,9 @@ enum-told-13 c = search needs
 enum-told-14 : tie.Need-enum-told-14
 enum-told-14 c = search needs
 
+enum-told-15 : tie.Need-enum-told-15
+enum-told-15 c = search needs
+
 returns : tie.Need-returns
 unfolding modeFits
 returns c = simp (c .enum-told .given .1)
@@ -171,6 +174,10 @@ returns-21 : tie.Need-returns-21
 unfolding modeFits
 returns-21 c = simp (c .enum-told14 .given .1)
 
+returns-22 : tie.Need-returns-22
+unfolding modeFits
+returns-22 c = simp (c .enum-told15 .given .1)
+
 pub mode-fits-spec : {M : Type 1} → statement M
 mode-fits-spec =
     tie.close
@@ -203,6 +210,7 @@ mode-fits-spec =
     enum-told-12
     enum-told-13
     enum-told-14
+    enum-told-15
     returns
     returns-2
     returns-3
@@ -223,4 +231,5 @@ mode-fits-spec =
     returns-18
     returns-19
     returns-20
-    returns-21)
+    returns-21
+    returns-22)
