@@ -1,5 +1,5 @@
 -- The number of nodes that are Asked: what is counted in the arrays is the charts' number, and where it was right it stays right. Assumes nothing.
-use mathlib.Core.Path.{_≡_, refl, ap, _∙_}
+use mathlib.Core.Path.{_≡_, refl, sym, ap, subst, _∙_}
 use mathlib.Core.Bool.{Bool, true, false, cond, _&&_}
 use mathlib.Core.List.{List}
 use Prim.Native.Nat.{ℕ, zero, suc, _+_, _-_, _<_, _≤_}
@@ -9,6 +9,7 @@ use lib.ListN.{getD, length, List·getD-eq-default}
 use borrow.Author.Tests.{eqb-true, ltb-true, ltb-false, lt-ltb}
 use Rattle.charts.specs.declared.Node.{Node}
 use Rattle.charts.specs.declared.Bus.{Bus}
+use Rattle.charts.specs.declared.Played.{Played}
 use Rattle.charts.specs.declared.Action.{Action}
 use Rattle.charts.specs.declared.Move.{Move}
 use Rattle.charts.specs.declared.Decoded.{Decoded}
@@ -20,7 +21,7 @@ use Rattle.charts.specs.Records.{isKind, moveOf, read}
 use Rattle.charts.specs.Valid.{isSize, phaseFits}
 use Rattle.charts.specs.Step.{Result, carryOut, about, outcomeOf, someAsked, mayAct, play, stepWith, isAccepted}
 use Rattle.charts.specs.Demand.{one}
-use Rattle.charts.specs.View.{view, freshNode}
+use Rattle.charts.specs.View.{view, seen, freshNode}
 use Rattle.charts.proofs.Tools.{never, clash, and-true, pick-by, by-test}
 use Rattle.charts.proofs.Ways.{Effect, effect}
 use Rattle.charts.proofs.Steps.{Known, Decodes, turned, taken, decodes, target-lt}
@@ -105,6 +106,11 @@ module _ (s : State) (a : Action) where
   read-kept z (Refused k) q (turned o) e = clash _ e o
   read-kept z (Accepted m) q (taken k) e = may z (taken-kind (s .n) a (moveOf a) q) k (mayAct s (moveOf a)) refl e
 
-  pub asked-kept : Kept (advanceOf s a)
+  asked-kept : Kept (advanceOf s a)
   unfolding advanceOf glance
   asked-kept = pick-by (λ d. Kept (stepWith s d)) (isSize (s .n) && phaseFits (s .n) (s .phase)) _ _ (λ z. read-kept z (read (s .n) a) refl (decodes (s .n) a)) (λ z e. never e)
+
+-- the same of the arrays of a bus
+pub asked-on : (b : Bus) (a : Action) (r : Played) → seen r ≡ advanceOf (view b) a → eqb (r .number) 0 ≡ true → askersIn (r .bus .nodes) (r .bus .n) ≡ askedAfter (askersIn (b .nodes) (b .n)) (a .kind)
+unfolding view
+asked-on b a r e q = subst (Kept (view b) a) (sym e) (asked-kept (view b) a) q

@@ -1,10 +1,11 @@
 use Prim.Native.Nat.{ℕ, suc, _+_, _*_, _-_, _≤_}
-use mathlib.Core.Path.{_≡_, ap, _∙_}
+use mathlib.Core.Path.{_≡_, sym, ap, _∙_}
 use mathlib.Core.Bool.{Bool}
 use mathlib.Core.List.{List}
 use borrow.Author.Needs.{needs}
 use borrow.Author.Tests.{eq-eqb, ne-eqb}
 use native.Mathlib.Omega.{arith}
+use lib.Dec.{ltb}
 use lib.ListN.{length, drop, set, length-set}
 use Rattle.charts.specs.declared.Bus.{Bus}
 use Rattle.charts.specs.declared.Node.{Node}
@@ -15,9 +16,11 @@ use Rattle.charts.specs.View.{view, seen, mark, Sized}
 use Rattle.link.specs.Reading.{heardBy}
 use Rattle.bus.specs.Advance.{glance, advanceOf}
 use Rattle.bus.specs.Plans.{tried}
+use Rattle.bus.specs.Asking.{askersIn, askedAfter}
 use Rattle.bus.proofs.ViewLaws.{length-mapped}
 use Rattle.bus.proofs.ReadLaws.{ready-glance}
 use Rattle.bus.proofs.InPlace.{carries, advances}
+use Rattle.bus.proofs.Counts.{counted-asked, asked-on}
 use Rattle.record.specs.Layout.{actionAt}
 use Rattle.record.proofs.Walk.{tail-part}
 use Rattle.transcript.specs.Lines.{lineOf, refusedLine}
@@ -31,6 +34,8 @@ use Rattle.player.proofs.block.play_actions.Tie as tie
 use Rattle.player.proofs.block.play_actions.Lts as lts
 use Rattle.player.proofs.block.play_actions.Reads as reads
 use Rattle.link.proofs.table.table.Reads as table-reads
+use Rattle.bus.proofs.asking.askers.Reads as askers-reads
+use Rattle.bus.proofs.asking.askers_after.Reads as askers-after-reads
 use Rattle.bus.proofs.aim.Reads as aim-reads
 use Rattle.bus.proofs.cells.cell_of.Reads as cell-of-reads
 use Rattle.bus.proofs.cells.node_of.Reads as node-of-reads
@@ -48,32 +53,36 @@ abbrev busOf : ℕ → Phase → List Node → List Bool → List Bool → List 
 busOf n phase nodes won pending holder misled concatenated = record { n = n; phase = phase; nodes = nodes; won = won; pending = pending; holder = holder; misled = misled; concatenated = concatenated }
 
 abbrev Inv-loop : tie.InvT-loop
-Inv-loop piece count first out₀ at last table n phase₀ nodes₀ won₀ pending₀ holder₀ misled₀ concatenated₀ end₀ k₀ out phase nodes won pending holder misled concatenated end k =
+Inv-loop piece count first out₀ at last table n phase₀ nodes₀ asked₀ won₀ pending₀ holder₀ misled₀ concatenated₀ end₀ k₀ out phase nodes asked won pending holder misled concatenated end k =
     (k ≤ last) × (last ≡ count) × (end ≤ at + 64 * k)
     × Same out₀ at (partOf (actionsIn count piece) (view (busOf n phase₀ nodes₀ won₀ pending₀ holder₀ misled₀ concatenated₀)) first) out end
     (partOf (left count k piece) (view (busOf n phase nodes won pending holder misled concatenated)) (first + k))
     × Sized (busOf n phase nodes won pending holder misled concatenated)
+    × (asked ≡ askersIn nodes n)
 
 abbrev μ-loop : tie.MeasureT-loop
-μ-loop piece count first out₀ at last table n phase₀ nodes₀ won₀ pending₀ holder₀ misled₀ concatenated₀ end₀ k₀ out phase nodes won pending holder misled concatenated end k = last - k
+μ-loop piece count first out₀ at last table n phase₀ nodes₀ asked₀ won₀ pending₀ holder₀ misled₀ concatenated₀ end₀ k₀ out phase nodes asked won pending holder misled concatenated end k = last - k
 
 table-requires : tie.Need-table-requires Inv-loop μ-loop
 table-requires c κs = search needs
 
+askers-requires : tie.Need-askers-requires Inv-loop μ-loop
+askers-requires c κs = search needs
+
 loop-holds : tie.Need-loop-holds Inv-loop μ-loop
 loop-holds c =
-    let a = c .before .before .before .before .before .before .before .args in
+    let a = c .before .before .before .before .before .before .before .before .args in
     let none : a .first + 0 ≡ a .first = omega arith in
-    let good = c .before .before .before .before .before .before .before .good in
+    let good = c .before .before .before .before .before .before .before .before .good in
     let sized : Sized (a .b) = record { nodes-size = search (needs, good, length-mapped); won-size = search (needs, good); pending-size = search (needs, good); holder-size = search (needs, good .0 .1 .1 .1 .1); misled-size = search (needs, good .0 .1 .1 .1 .1) } in
-    (search needs, search needs, search needs, rw (left-all, none) (at-start _ _ _), sized)
+    (search needs, search needs, search needs, rw (left-all, none) (at-start _ _ _), sized, c .before .before .before .before .askers .ensures)
 
 -- an action played in place, before its line is put: what is known there, and the bus's record then
 abbrev Played-here : Type 0
-Played-here = lts.After-struct-known2 (table-reads.Asked, table-reads.Learnt, read-action-reads.Asked, read-action-reads.Learnt, aim-reads.Asked, aim-reads.Learnt, cell-of-reads.Asked, cell-of-reads.Learnt, plan-reads.Asked, plan-reads.Learnt, node-of-reads.Asked, node-of-reads.Learnt, clears-won-reads.Asked, clears-won-reads.Learnt, clear-reads.Asked, clear-reads.Learnt, clears-misled-reads.Asked, clears-misled-reads.Learnt, concatenated-after-reads.Asked, concatenated-after-reads.Learnt, put-refused-reads.Asked, put-refused-reads.Learnt, put-line-reads.Asked, put-line-reads.Learnt) reads.Pre reads.Post Inv-loop μ-loop
+Played-here = lts.After-struct-known2 (table-reads.Asked, table-reads.Learnt, askers-reads.Asked, askers-reads.Learnt, read-action-reads.Asked, read-action-reads.Learnt, aim-reads.Asked, aim-reads.Learnt, cell-of-reads.Asked, cell-of-reads.Learnt, plan-reads.Asked, plan-reads.Learnt, node-of-reads.Asked, node-of-reads.Learnt, clears-won-reads.Asked, clears-won-reads.Learnt, clear-reads.Asked, clear-reads.Learnt, clears-misled-reads.Asked, clears-misled-reads.Learnt, concatenated-after-reads.Asked, concatenated-after-reads.Learnt, put-refused-reads.Asked, put-refused-reads.Learnt, put-line-reads.Asked, put-line-reads.Learnt, askers-after-reads.Asked, askers-after-reads.Learnt) reads.Pre reads.Post Inv-loop μ-loop
 
 abbrev found : Played-here → Bus
-found c = let l = c .before .before .before .before .before .before .before .before .before .before .before .before .before .before .before .before .before .before .before .before .before .before .before .loop in busOf (c .before .before .before .before .before .before .before .before .before .before .before .before .before .before .before .before .before .before .before .before .before .before .before .before .before .before .before .before .before .before .before .args .b .n) (l .phase) (l .nodes) (l .won) (l .pending) (l .holder) (l .misled) (l .concatenated)
+found c = let l = c .before .before .before .before .before .before .before .before .before .before .before .before .before .before .before .before .before .before .before .before .before .before .before .loop in busOf (c .before .before .before .before .before .before .before .before .before .before .before .before .before .before .before .before .before .before .before .before .before .before .before .before .before .before .before .before .before .before .before .before .args .b .n) (l .phase) (l .nodes) (l .won) (l .pending) (l .holder) (l .misled) (l .concatenated)
 
 abbrev result : Played-here → Played
 result c =
@@ -95,22 +104,23 @@ is-step c =
     let plan = c .before .before .before .before .before .before .before .before .before .before .plan in
     let p = plan .result in
     let i = aim .result .node in
-    let table = c .before .before .before .before .before .before .before .before .before .before .before .before .before .before .before .before .before .before .before .before .before .before .before .before .before .before .before .before .before .table in
-    let planned = tried (heardBy (table .result)) (b .n) (b .phase) (b .concatenated) i (cell .result) (mark (b .won)) (mark (b .pending)) (mark (b .holder)) in
+    let table = c .before .before .before .before .before .before .before .before .before .before .before .before .before .before .before .before .before .before .before .before .before .before .before .before .before .before .before .before .before .before .table in
+    let asked = c .before .before .before .before .before .before .before .before .before .before .before .before .before .before .before .before .before .before .before .before .before .before .before .loop in
+    let planned = tried (heardBy (table .result)) (b .n) (b .phase) (b .concatenated) (ltb 0 (asked .asked)) i (cell .result) (mark (b .won)) (mark (b .pending)) (mark (b .holder)) in
     let is-plan = _∙_ {b = planned (aim .result .decoded)} (plan .ensures) (ap planned (aim .ensures .0)) in
-    carries b (glance (b .n) (b .phase) act) i (cell .result) p (c .before .before .before .before .before .before .before .before .before .before .before .before .before .before .before .before .before .before .before .before .before .before .before .loop .inv .4) (ready-glance (b .n) (b .phase) (mark (b .pending)) act) (aim .ensures .1 .1) (aim .ensures .1 .0) (cell .ensures) (table .result) (table .ensures) is-plan
+    carries b (glance (b .n) (b .phase) act) i (cell .result) p (c .before .before .before .before .before .before .before .before .before .before .before .before .before .before .before .before .before .before .before .before .before .before .before .loop .inv .4) (ready-glance (b .n) (b .phase) (mark (b .pending)) act) (aim .ensures .1 .1) (aim .ensures .1 .0) (cell .ensures) (table .result) (table .ensures) (ltb 0 (asked .asked)) (counted-asked b (asked .asked) (asked .inv .5)) is-plan
     (c .before .before .before .before .before .before .before .before .node-of .result) (c .before .before .before .before .before .clear .last .0) (c .before .before .clear2 .last .0) (c .before .before .before .before .before .before .clears-won .result) (c .before .before .before .clears-misled .result) (c .before .concatenated-after .result)
     (c .before .before .before .before .before .before .before .before .node-of .ensures) (c .before .before .before .before .before .before .clears-won .ensures) (c .before .before .before .before .before .clear .ensures .1) (c .before .before .before .clears-misled .ensures) (c .before .before .clear2 .ensures .1) (c .before .concatenated-after .ensures)
     ∙ advances b act
 
 -- the whole is this action's turn and what is played later
 abbrev later : Played-here → Part State
-later c = partOf (left (c .before .before .before .before .before .before .before .before .before .before .before .before .before .before .before .before .before .before .before .before .before .before .before .before .before .before .before .before .before .before .before .args .count) (c .before .before .before .before .before .before .before .before .before .before .before .before .before .before .before .before .before .before .before .before .before .before .before .loop .k + 1) (c .before .before .before .before .before .before .before .before .before .before .before .before .before .before .before .before .before .before .before .before .before .before .before .before .before .before .before .before .before .before .before .args .piece .now)) (view (result c .bus)) (suc (c .before .before .before .before .before .before .before .before .before .before .before .before .before .before .before .before .before .before .before .before .before .before .before .before .before .before .before .before .before .before .before .args .first + c .before .before .before .before .before .before .before .before .before .before .before .before .before .before .before .before .before .before .before .before .before .before .before .loop .k))
+later c = partOf (left (c .before .before .before .before .before .before .before .before .before .before .before .before .before .before .before .before .before .before .before .before .before .before .before .before .before .before .before .before .before .before .before .before .args .count) (c .before .before .before .before .before .before .before .before .before .before .before .before .before .before .before .before .before .before .before .before .before .before .before .loop .k + 1) (c .before .before .before .before .before .before .before .before .before .before .before .before .before .before .before .before .before .before .before .before .before .before .before .before .before .before .before .before .before .before .before .before .args .piece .now)) (view (result c .bus)) (suc (c .before .before .before .before .before .before .before .before .before .before .before .before .before .before .before .before .before .before .before .before .before .before .before .before .before .before .before .before .before .before .before .before .args .first + c .before .before .before .before .before .before .before .before .before .before .before .before .before .before .before .before .before .before .before .before .before .before .before .loop .k))
 
-turn : (c : Played-here) → Same (c .before .before .before .before .before .before .before .before .before .before .before .before .before .before .before .before .before .before .before .before .before .before .before .before .before .before .before .before .before .before .before .args .out .now) (c .before .before .before .before .before .before .before .before .before .before .before .before .before .before .before .before .before .before .before .before .before .before .before .before .before .before .before .before .before .before .before .args .at) (partOf (actionsIn (c .before .before .before .before .before .before .before .before .before .before .before .before .before .before .before .before .before .before .before .before .before .before .before .before .before .before .before .before .before .before .before .args .count) (c .before .before .before .before .before .before .before .before .before .before .before .before .before .before .before .before .before .before .before .before .before .before .before .before .before .before .before .before .before .before .before .args .piece .now)) (view (c .before .before .before .before .before .before .before .before .before .before .before .before .before .before .before .before .before .before .before .before .before .before .before .before .before .before .before .before .before .before .before .args .b)) (c .before .before .before .before .before .before .before .before .before .before .before .before .before .before .before .before .before .before .before .before .before .before .before .before .before .before .before .before .before .before .before .args .first)) (c .before .before .before .before .before .before .before .before .before .before .before .before .before .before .before .before .before .before .before .before .before .before .before .loop .out) (c .before .before .before .before .before .before .before .before .before .before .before .before .before .before .before .before .before .before .before .before .before .before .before .loop .end) (turnOf (c .before .before .before .before .before .before .before .before .before .before .before .before .before .before .before .before .before .before .before .before .before .before .before .before .before .before .before .before .before .before .before .args .first + c .before .before .before .before .before .before .before .before .before .before .before .before .before .before .before .before .before .before .before .before .before .before .before .loop .k) (c .before .before .before .before .before .before .before .before .before .before .before .before .before .before .before .before .before .before .before .before .read-action .result .kind) (seen (result c)) (later c))
+turn : (c : Played-here) → Same (c .before .before .before .before .before .before .before .before .before .before .before .before .before .before .before .before .before .before .before .before .before .before .before .before .before .before .before .before .before .before .before .before .args .out .now) (c .before .before .before .before .before .before .before .before .before .before .before .before .before .before .before .before .before .before .before .before .before .before .before .before .before .before .before .before .before .before .before .before .args .at) (partOf (actionsIn (c .before .before .before .before .before .before .before .before .before .before .before .before .before .before .before .before .before .before .before .before .before .before .before .before .before .before .before .before .before .before .before .before .args .count) (c .before .before .before .before .before .before .before .before .before .before .before .before .before .before .before .before .before .before .before .before .before .before .before .before .before .before .before .before .before .before .before .before .args .piece .now)) (view (c .before .before .before .before .before .before .before .before .before .before .before .before .before .before .before .before .before .before .before .before .before .before .before .before .before .before .before .before .before .before .before .before .args .b)) (c .before .before .before .before .before .before .before .before .before .before .before .before .before .before .before .before .before .before .before .before .before .before .before .before .before .before .before .before .before .before .before .before .args .first)) (c .before .before .before .before .before .before .before .before .before .before .before .before .before .before .before .before .before .before .before .before .before .before .before .loop .out) (c .before .before .before .before .before .before .before .before .before .before .before .before .before .before .before .before .before .before .before .before .before .before .before .loop .end) (turnOf (c .before .before .before .before .before .before .before .before .before .before .before .before .before .before .before .before .before .before .before .before .before .before .before .before .before .before .before .before .before .before .before .before .args .first + c .before .before .before .before .before .before .before .before .before .before .before .before .before .before .before .before .before .before .before .before .before .before .before .loop .k) (c .before .before .before .before .before .before .before .before .before .before .before .before .before .before .before .before .before .before .before .before .read-action .result .kind) (seen (result c)) (later c))
 turn c =
     let l = c .before .before .before .before .before .before .before .before .before .before .before .before .before .before .before .before .before .before .before .before .before .before .before .loop in
-    let a = c .before .before .before .before .before .before .before .before .before .before .before .before .before .before .before .before .before .before .before .before .before .before .before .before .before .before .before .before .before .before .before .args in
+    let a = c .before .before .before .before .before .before .before .before .before .before .before .before .before .before .before .before .before .before .before .before .before .before .before .before .before .before .before .before .before .before .before .before .args in
     let read : c .before .before .before .before .before .before .before .before .before .before .before .before .before .before .before .before .before .before .before .before .read-action .result ≡ actionAt (drop (14 + 16 * l .k) (a .piece .now)) = rw tail-part at (c .before .before .before .before .before .before .before .before .before .before .before .before .before .before .before .before .before .before .before .before .read-action .ensures) in
     rw (left-more (a .count) (l .k) (a .piece .now) (omega (arith, c .before .before .before .before .before .before .before .before .before .before .before .before .before .before .before .before .before .before .before .before .before .before .loop-test .taken, l .inv .1)), ← read, ← is-step c) at (l .inv .3)
 
@@ -199,7 +209,7 @@ concatenated-after-requires : tie.Need-concatenated-after-requires Inv-loop μ-l
 concatenated-after-requires c κs = search needs
 
 add-index : tie.Need-add-index Inv-loop μ-loop
-add-index c = search (needs, c .before .before .before .before .before .before .before .before .before .before .before .before .before .before .before .before .before .before .before .before .before .loop-test .taken, c .before .before .before .before .before .before .before .before .before .before .before .before .before .before .before .before .before .before .before .before .before .before .loop .inv .0, c .before .before .before .before .before .before .before .before .before .before .before .before .before .before .before .before .before .before .before .before .before .before .loop .inv .1, c .before .before .before .before .before .before .before .before .before .before .before .before .before .before .before .before .before .before .before .before .before .before .before .before .before .before .before .before .before .before .pre)
+add-index c = search (needs, c .before .before .before .before .before .before .before .before .before .before .before .before .before .before .before .before .before .before .before .before .before .loop-test .taken, c .before .before .before .before .before .before .before .before .before .before .before .before .before .before .before .before .before .before .before .before .before .before .loop .inv .0, c .before .before .before .before .before .before .before .before .before .before .before .before .before .before .before .before .before .before .before .before .before .before .loop .inv .1, c .before .before .before .before .before .before .before .before .before .before .before .before .before .before .before .before .before .before .before .before .before .before .before .before .before .before .before .before .before .before .before .pre)
 
 put-refused-requires : tie.Need-put-refused-requires Inv-loop μ-loop
 put-refused-requires c κs = search needs
@@ -207,11 +217,11 @@ put-refused-requires c κs = search needs
 returns : tie.Need-returns Inv-loop μ-loop
 returns c =
     let h = c .before .before .before in
-    let a = c .before .before .before .before .before .before .before .before .before .before .before .before .before .before .before .before .before .before .before .before .before .before .before .before .before .before .before .before .before .before .before .before .before .before .args in
+    let a = c .before .before .before .before .before .before .before .before .before .before .before .before .before .before .before .before .before .before .before .before .before .before .before .before .before .before .before .before .before .before .before .before .before .before .before .args in
     let l = c .before .before .before .before .before .before .before .before .before .before .before .before .before .before .before .before .before .before .before .before .before .before .before .before .before .before .loop in
     let r = result h in
     let put = c .put-refused .ensures in
-    let given = c .before .before .before .before .before .before .before .before .before .before .before .before .before .before .before .before .before .before .before .before .before .before .before .before .before .before .before .before .before .before .before .before .before .before .pre in
+    let given = c .before .before .before .before .before .before .before .before .before .before .before .before .before .before .before .before .before .before .before .before .before .before .before .before .before .before .before .before .before .before .before .before .before .before .before .pre in
     let more = c .before .before .before .before .before .before .before .before .before .before .before .before .before .before .before .before .before .before .before .before .before .before .before .before .before .loop-test .taken in
     let long : length (l .out) ≡ 2048 = search (needs, c .before .put-refused-arg .given) in
     let line = puts-line {buf = l .out} {at = l .end} {text = refusedLine (a .first + l .k) (r .number)} (omega (arith, l .inv .1, l .inv .2)) (put .1 .0) (put .1 .1) in
@@ -221,39 +231,45 @@ returns c =
 put-line-requires : tie.Need-put-line-requires Inv-loop μ-loop
 put-line-requires c κs = search needs
 
+askers-after-requires : tie.Need-askers-after-requires Inv-loop μ-loop
+askers-after-requires c κs = search needs
+
 add-k : tie.Need-add-k Inv-loop μ-loop
-add-k c = search (needs, c .before .before .before .before .before .before .before .before .before .before .before .before .before .before .before .before .before .before .before .before .before .before .before .before .before .loop-test .taken, c .before .before .before .before .before .before .before .before .before .before .before .before .before .before .before .before .before .before .before .before .before .before .before .before .before .before .loop .inv .0, c .before .before .before .before .before .before .before .before .before .before .before .before .before .before .before .before .before .before .before .before .before .before .before .before .before .before .loop .inv .1, c .before .before .before .before .before .before .before .before .before .before .before .before .before .before .before .before .before .before .before .before .before .before .before .before .before .before .before .before .before .before .before .before .before .before .pre)
+add-k c = search (needs, c .before .before .before .before .before .before .before .before .before .before .before .before .before .before .before .before .before .before .before .before .before .before .before .before .before .before .loop-test .taken, c .before .before .before .before .before .before .before .before .before .before .before .before .before .before .before .before .before .before .before .before .before .before .before .before .before .before .before .loop .inv .0, c .before .before .before .before .before .before .before .before .before .before .before .before .before .before .before .before .before .before .before .before .before .before .before .before .before .before .before .loop .inv .1, c .before .before .before .before .before .before .before .before .before .before .before .before .before .before .before .before .before .before .before .before .before .before .before .before .before .before .before .before .before .before .before .before .before .before .before .before .pre)
 
 loop-less : tie.Need-loop-less Inv-loop μ-loop
-loop-less c = search (needs, c .before .before .before .before .before .before .before .before .before .before .before .before .before .before .before .before .before .before .before .before .before .before .before .before .before .loop-test .taken, c .before .before .before .before .before .before .before .before .before .before .before .before .before .before .before .before .before .before .before .before .before .before .before .before .before .before .loop .inv .0, c .before .before .before .before .before .before .before .before .before .before .before .before .before .before .before .before .before .before .before .before .before .before .before .before .before .before .loop .inv .1, c .before .before .before .before .before .before .before .before .before .before .before .before .before .before .before .before .before .before .before .before .before .before .before .before .before .before .before .before .before .before .before .before .before .before .pre)
+loop-less c = search (needs, c .before .before .before .before .before .before .before .before .before .before .before .before .before .before .before .before .before .before .before .before .before .before .before .before .before .before .loop-test .taken, c .before .before .before .before .before .before .before .before .before .before .before .before .before .before .before .before .before .before .before .before .before .before .before .before .before .before .before .loop .inv .0, c .before .before .before .before .before .before .before .before .before .before .before .before .before .before .before .before .before .before .before .before .before .before .before .before .before .before .before .loop .inv .1, c .before .before .before .before .before .before .before .before .before .before .before .before .before .before .before .before .before .before .before .before .before .before .before .before .before .before .before .before .before .before .before .before .before .before .before .before .pre)
 
 loop-again : tie.Need-loop-again Inv-loop μ-loop
 loop-again c =
-    let h = c .before .before .before in
-    let a = c .before .before .before .before .before .before .before .before .before .before .before .before .before .before .before .before .before .before .before .before .before .before .before .before .before .before .before .before .before .before .before .before .before .before .args in
-    let l = c .before .before .before .before .before .before .before .before .before .before .before .before .before .before .before .before .before .before .before .before .before .before .before .before .before .before .loop in
+    let h = c .before .before .before .before in
+    let a = c .before .before .before .before .before .before .before .before .before .before .before .before .before .before .before .before .before .before .before .before .before .before .before .before .before .before .before .before .before .before .before .before .before .before .before .before .args in
+    let l = c .before .before .before .before .before .before .before .before .before .before .before .before .before .before .before .before .before .before .before .before .before .before .before .before .before .before .before .loop in
     let r = result h in
     let b = found h in
-    let i = c .before .before .before .before .before .before .before .before .before .before .before .before .before .before .before .before .before .before .before .before .before .aim .result .node in
-    let p = c .before .before .before .before .before .before .before .before .before .before .before .before .before .plan .result in
+    let i = c .before .before .before .before .before .before .before .before .before .before .before .before .before .before .before .before .before .before .before .before .before .before .aim .result .node in
+    let p = c .before .before .before .before .before .before .before .before .before .before .before .before .before .before .plan .result in
+    let act = c .before .before .before .before .before .before .before .before .before .before .before .before .before .before .before .before .before .before .before .before .before .before .before .before .read-action .result in
+    let accepted = eq-eqb (r .number) 0 (c .before .before .before .if1 .left) in
     let sized : Sized b = l .inv .4 in
-    let put = c .put-line .ensures in
-    let given = c .before .before .before .before .before .before .before .before .before .before .before .before .before .before .before .before .before .before .before .before .before .before .before .before .before .before .before .before .before .before .before .before .before .before .pre in
-    let more = c .before .before .before .before .before .before .before .before .before .before .before .before .before .before .before .before .before .before .before .before .before .before .before .before .before .loop-test .taken in
-    let long : length (l .out) ≡ 2048 = search (needs, c .before .put-line-arg .given) in
-    let line = puts-line {buf = l .out} {at = l .end} {text = lineOf (a .first + l .k) (c .before .before .before .before .before .before .before .before .before .before .before .before .before .before .before .before .before .before .before .before .before .before .before .read-action .result .kind) (r .report)} (omega (arith, l .inv .1, l .inv .2)) (put .1 .0) (put .1 .1) in
+    let put = c .before .put-line .ensures in
+    let given = c .before .before .before .before .before .before .before .before .before .before .before .before .before .before .before .before .before .before .before .before .before .before .before .before .before .before .before .before .before .before .before .before .before .before .before .before .pre in
+    let more = c .before .before .before .before .before .before .before .before .before .before .before .before .before .before .before .before .before .before .before .before .before .before .before .before .before .before .loop-test .taken in
+    let long : length (l .out) ≡ 2048 = search (needs, c .before .before .put-line-arg .given) in
+    let line = puts-line {buf = l .out} {at = l .end} {text = lineOf (a .first + l .k) (c .before .before .before .before .before .before .before .before .before .before .before .before .before .before .before .before .before .before .before .before .before .before .before .before .read-action .result .kind) (r .report)} (omega (arith, l .inv .1, l .inv .2)) (put .1 .0) (put .1 .1) in
     let next : suc (a .first + l .k) ≡ a .first + (l .k + 1) = omega arith in
-    let sizes : Sized (r .bus) = record { nodes-size = length-set (b .nodes) i (c .before .before .before .before .before .before .before .before .before .before .before .node-of .result) ∙ sized .nodes-size; won-size = c .before .before .before .before .before .before .before .before .clear .ensures .0 ∙ (length-set (b .won) i (p .cell .won) ∙ sized .won-size); pending-size = length-set (b .pending) i (p .cell .pending) ∙ sized .pending-size; holder-size = length-set (b .holder) i (p .cell .holder) ∙ sized .holder-size; misled-size = c .before .before .before .before .before .clear2 .ensures .0 ∙ (length-set (b .misled) i (p .cell .misled) ∙ sized .misled-size) } in (
+    let sizes : Sized (r .bus) = record { nodes-size = length-set (b .nodes) i (c .before .before .before .before .before .before .before .before .before .before .before .before .node-of .result) ∙ sized .nodes-size; won-size = c .before .before .before .before .before .before .before .before .before .clear .ensures .0 ∙ (length-set (b .won) i (p .cell .won) ∙ sized .won-size); pending-size = length-set (b .pending) i (p .cell .pending) ∙ sized .pending-size; holder-size = length-set (b .holder) i (p .cell .holder) ∙ sized .holder-size; misled-size = c .before .before .before .before .before .before .clear2 .ensures .0 ∙ (length-set (b .misled) i (p .cell .misled) ∙ sized .misled-size) } in (
       search (needs, more),
       search (needs, l .inv .1),
       omega (arith, put .0, l .inv .2),
-      rw (← next) (go-on (a .first + l .k) (c .before .before .before .before .before .before .before .before .before .before .before .before .before .before .before .before .before .before .before .before .before .before .before .read-action .result .kind) (seen r) (later h) (turn h) (eq-eqb (r .number) 0 (c .before .before .if1 .left)) line),
+      rw (← next) (go-on (a .first + l .k) (c .before .before .before .before .before .before .before .before .before .before .before .before .before .before .before .before .before .before .before .before .before .before .before .before .read-action .result .kind) (seen r) (later h) (turn h) accepted line),
       sizes,
+      c .askers-after .ensures ∙ ap (λ k. askedAfter k (act .kind)) (l .inv .5) ∙ sym (asked-on b act r (is-step h) accepted),
     )
 
 returns-2 : tie.Need-returns-2 Inv-loop μ-loop
 returns-2 c =
-    let a = c .before .before .before .before .before .before .before .before .before .args in
+    let a = c .before .before .before .before .before .before .before .before .before .before .args in
     let l = c .before .loop in
     let all = ends (rw (left-none (a .count) (l .k) (a .piece .now) (omega arith)) at (l .inv .3)) in
     (omega arith, record { puts = all .text-put; leaves = all .last-state; stops = all .stopped })
@@ -265,6 +281,7 @@ play-actions-spec =
     Inv-loop
     μ-loop
     table-requires
+    askers-requires
     loop-holds
     mul-from
     add-from
@@ -298,6 +315,7 @@ play-actions-spec =
     put-refused-requires
     returns
     put-line-requires
+    askers-after-requires
     add-k
     loop-less
     loop-again
