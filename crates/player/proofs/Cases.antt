@@ -12,7 +12,7 @@ use Rattle.charts.specs.Records.{read, clean, moveOf}
 use Rattle.charts.specs.Reception.{hears}
 use Rattle.charts.specs.Outputs.{output}
 use Rattle.charts.specs.Arrivals.{arrives}
-use Rattle.charts.specs.Actions.{request, arbitrate, respond, clock, carry, grant, gap, reset, outcome}
+use Rattle.charts.specs.Actions.{request, arbitrate, respond, clock, carry, grant, gap, reset, ask, decide, outcome}
 use Rattle.charts.specs.Valid.{modeFits, cellFits, phaseFits, valid}
 use Rattle.charts.specs.Step.{step, play, look}
 use Rattle.record.specs.Layout.{bytesOf, actionAt}
@@ -36,7 +36,7 @@ hold (r ∷ l) = same (printed (r .file)) (r .text) && hold l
 
 -- the one computed test
 cases-hold : hold cases ≡ true
-unfolding read clean moveOf hears output arrives request arbitrate respond clock carry grant gap reset outcome modeFits cellFits phaseFits valid step play look bytesOf actionAt checkOf headOf countFits bodyOf blockWith fileOf decimal lineOf nodesLine doneLine refusedLine
+unfolding read clean moveOf hears output arrives request arbitrate respond clock carry grant gap reset ask decide outcome modeFits cellFits phaseFits valid step play look bytesOf actionAt checkOf headOf countFits bodyOf blockWith fileOf decimal lineOf nodesLine doneLine refusedLine
 cases-hold = refl
 
 same-eq : (s t : List ℕ) → same s t ≡ true → s ≡ t

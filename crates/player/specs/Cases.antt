@@ -1,4 +1,4 @@
--- Document 01's marked cases A to I, a concatenated response (request 1), labels (request 3) and drops (request 4) as rows of one table: the bytes of a file, and the text that the documents say it prints. (proofs/Cases.antt tests the table.)
+-- Document 01's marked cases A to I, a concatenated response (request 1), labels (request 3), drops (request 4) and contention (request 6) as rows of one table: the bytes of a file, and the text that the documents say it prints. (proofs/Cases.antt tests the table.)
 use mathlib.Core.List.{List, [], _∷_, _++_}
 use Prim.Native.Nat.{ℕ}
 use lib.ListN.{replicate}
@@ -38,6 +38,12 @@ grant = recordOf 8 0 0 0 0 0 0 0
 abbrev gap : Action
 gap = recordOf 9 0 0 0 0 0 0 0
 
+abbrev ask : ℕ → Action
+ask i = recordOf 11 i 0 0 0 0 0 0
+
+abbrev decide : ℕ → Action
+decide i = recordOf 12 i 0 0 0 0 0 0
+
 -- "request 0 to 63 (header 1, data 2), arbitrate 0, six times clock 0 and pass": node 0 of two sends, and this becomes of its Header and of its Data
 abbrev sends : ℕ → ℕ → ℕ → ℕ → Action → Action → List Action
 sends to label h d header datum =
@@ -58,6 +64,10 @@ abbrev replies : List Action
 replies =
     sends 1 0 5 6 pass pass ++ (grant ∷ respond 1 1 1 ∷ clock 1 ∷ pass ∷ clock 1 ∷ pass ∷ clock 1 ∷ pass ∷ clock 1 ∷ pass
     ∷ request 1 0 0 7 8 ∷ clock 1 ∷ pass ∷ clock 1 ∷ pass ∷ clock 1 ∷ pass ∷ clock 1 ∷ pass ∷ clock 1 ∷ pass ∷ clock 1 ∷ pass ∷ grant ∷ [])
+
+-- request 6: both nodes of two "ask before the bus decides", and node 0 is decided first
+abbrev contends : List Action
+contends = request 0 63 0 1 2 ∷ request 1 63 0 3 4 ∷ ask 1 ∷ ask 0 ∷ decide 0 ∷ []
 
 pub record Row : Type 0 where
   pub file : List ℕ
@@ -242,8 +252,22 @@ case-drop-TailAll = record {
   text = ascii "nodes 2\n0 1 -\n1 2 0 won\n2 4 -\n3 5 -\n4 4 -\n5 5 -\n6 4 -\n7 5 -\n8 4 -\n9 5 -\n10 4 -\n11 7 -\n12 4 0 sent 0\n13 5 1 drop TailAll\n14 9 -\n15 9 -\ndone 16\n";
 }
 
+-- "decided as kind 2 decides, won or lost; a loser returns to Rest": it hears the packet, keeps its own, and wins with it the next time
+abbrev pub case-contention : Row
+case-contention = record {
+  file = fileOf 2 (contends ++ (decide 1 ∷ clock 0 ∷ pass ∷ clock 0 ∷ pass ∷ clock 0 ∷ pass ∷ clock 0 ∷ pass ∷ clock 0 ∷ pass ∷ clock 0 ∷ pass ∷ gap ∷ gap ∷ ask 1 ∷ decide 1 ∷ []));
+  text = ascii "nodes 2\n0 1 -\n1 1 -\n2 11 -\n3 11 -\n4 12 0 won\n5 12 1 lost\n6 4 -\n7 5 -\n8 4 -\n9 5 -\n10 4 -\n11 5 -\n12 4 -\n13 5 -\n14 4 -\n15 5 -\n16 4 0 sent 0\n17 5 1 broad 1 2 0\n18 9 -\n19 9 -\n20 11 -\n21 12 1 won\ndone 22\n";
+}
+
+-- "While a node is Asked, kinds 4 to 10 are not open."
+abbrev pub case-contention-clocked : Row
+case-contention-clocked = record {
+  file = fileOf 2 (contends ++ (clock 0 ∷ []));
+  text = ascii "nodes 2\n0 1 -\n1 1 -\n2 11 -\n3 11 -\n4 12 0 won\nrefused 5 7\n";
+}
+
 abbrev pub cases : List Row
 cases =
     case-A ∷ case-B ∷ case-C ∷ case-D ∷ case-E ∷ case-F-refused ∷ case-F-taken ∷ case-G ∷ case-H ∷ case-I-1 ∷ case-I-2 ∷ case-I-63 ∷ case-I-64 ∷ case-I-15 ∷ case-I-16
     ∷ case-reply ∷ case-reply-held ∷ case-label-A ∷ case-label-B ∷ case-label-C ∷ case-label-E ∷ case-label-63 ∷ case-label-64
-    ∷ case-drop-HeadOwn ∷ case-drop-BodyOwn ∷ case-drop-HeadAll ∷ case-drop-BodyAll ∷ case-drop-TailAll ∷ []
+    ∷ case-drop-HeadOwn ∷ case-drop-BodyOwn ∷ case-drop-HeadAll ∷ case-drop-BodyAll ∷ case-drop-TailAll ∷ case-contention ∷ case-contention-clocked ∷ []
