@@ -49,7 +49,9 @@ wordsFor a =
     (cond (eqb (a .kind) 8) (ascii "grant" ∷ [])
     (cond (eqb (a .kind) 9) (ascii "gap" ∷ [])
     (cond (eqb (a .kind) 10) (ascii "reset" ∷ [])
-    [])))))))))
+    (cond (eqb (a .kind) 11) (ascii "ask" ∷ decimal (a .node) ∷ [])
+    (cond (eqb (a .kind) 12) (ascii "decide" ∷ decimal (a .node) ∷ [])
+    [])))))))))))
 
 unfoldable pub actionLine : Action → List ℕ
 actionLine a = line (wordsFor a)

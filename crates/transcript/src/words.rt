@@ -112,6 +112,8 @@ pub(crate) fn put_action(buf: &mut [u8], at: usize, a: Action) -> usize
         8 => text::put_word(buf, at, b"grant\n"),
         9 => text::put_word(buf, at, b"gap\n"),
         10 => text::put_word(buf, at, b"reset\n"),
+        11 => put_of_node(buf, at, b"ask ", a.node),
+        12 => put_of_node(buf, at, b"decide ", a.node),
         _ => text::put_byte(buf, at, b'\n'),
     }
 }

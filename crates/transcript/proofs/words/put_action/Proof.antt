@@ -56,6 +56,18 @@ slice-aggregate-put-word-5 c = search needs
 put-word-requires-5 : tie.Need-put-word-requires-5
 put-word-requires-5 c κs = search needs
 
+slice-aggregate-put-of-node-3 : tie.Need-slice-aggregate-put-of-node-3
+slice-aggregate-put-of-node-3 c = search needs
+
+put-of-node-requires-3 : tie.Need-put-of-node-requires-3
+put-of-node-requires-3 c κs = search needs
+
+slice-aggregate-put-of-node-4 : tie.Need-slice-aggregate-put-of-node-4
+slice-aggregate-put-of-node-4 c = search needs
+
+put-of-node-requires-4 : tie.Need-put-of-node-requires-4
+put-of-node-requires-4 c κs = search needs
+
 put-byte-requires : tie.Need-put-byte-requires
 put-byte-requires c κs = search needs
 
@@ -134,7 +146,21 @@ same-length-11 c = search needs
 
 returns-11 : tie.Need-returns-11
 unfolding actionLine wordsFor
-returns-11 c = (omega arith, rw (ne-eqb _ _ (c .before .before .before .before .match .rest .0 .0 .0 .0 .0 .0 .0 .0 .0 .1), ne-eqb _ _ (c .before .before .before .before .match .rest .0 .0 .0 .0 .0 .0 .0 .0 .1), ne-eqb _ _ (c .before .before .before .before .match .rest .0 .0 .0 .0 .0 .0 .0 .1), ne-eqb _ _ (c .before .before .before .before .match .rest .0 .0 .0 .0 .0 .0 .1), ne-eqb _ _ (c .before .before .before .before .match .rest .0 .0 .0 .0 .0 .1), ne-eqb _ _ (c .before .before .before .before .match .rest .0 .0 .0 .0 .1), ne-eqb _ _ (c .before .before .before .before .match .rest .0 .0 .0 .1), ne-eqb _ _ (c .before .before .before .before .match .rest .0 .0 .1), ne-eqb _ _ (c .before .before .before .before .match .rest .0 .1), ne-eqb _ _ (c .before .before .before .before .match .rest .1)) (c .before .before .put-byte .ensures))
+returns-11 c = (omega arith, rw (c .before .before .before .before .before .match .keys11) (c .before .before .put-of-node3 .ensures .1))
+
+same-length-12 : tie.Need-same-length-12
+same-length-12 c = search needs
+
+returns-12 : tie.Need-returns-12
+unfolding actionLine wordsFor
+returns-12 c = (omega arith, rw (c .before .before .before .before .before .match .keys12) (c .before .before .put-of-node4 .ensures .1))
+
+same-length-13 : tie.Need-same-length-13
+same-length-13 c = search needs
+
+returns-13 : tie.Need-returns-13
+unfolding actionLine wordsFor
+returns-13 c = (omega arith, rw (ne-eqb _ _ (c .before .before .before .before .match .rest .0 .0 .0 .0 .0 .0 .0 .0 .0 .0 .0 .1), ne-eqb _ _ (c .before .before .before .before .match .rest .0 .0 .0 .0 .0 .0 .0 .0 .0 .0 .1), ne-eqb _ _ (c .before .before .before .before .match .rest .0 .0 .0 .0 .0 .0 .0 .0 .0 .1), ne-eqb _ _ (c .before .before .before .before .match .rest .0 .0 .0 .0 .0 .0 .0 .0 .1), ne-eqb _ _ (c .before .before .before .before .match .rest .0 .0 .0 .0 .0 .0 .0 .1), ne-eqb _ _ (c .before .before .before .before .match .rest .0 .0 .0 .0 .0 .0 .1), ne-eqb _ _ (c .before .before .before .before .match .rest .0 .0 .0 .0 .0 .1), ne-eqb _ _ (c .before .before .before .before .match .rest .0 .0 .0 .0 .1), ne-eqb _ _ (c .before .before .before .before .match .rest .0 .0 .0 .1), ne-eqb _ _ (c .before .before .before .before .match .rest .0 .0 .1), ne-eqb _ _ (c .before .before .before .before .match .rest .0 .1), ne-eqb _ _ (c .before .before .before .before .match .rest .1)) (c .before .before .put-byte .ensures))
 
 pub put-action-spec : {M : Type 1} → statement M
 put-action-spec =
@@ -157,6 +183,10 @@ put-action-spec =
     put-word-requires-4
     slice-aggregate-put-word-5
     put-word-requires-5
+    slice-aggregate-put-of-node-3
+    put-of-node-requires-3
+    slice-aggregate-put-of-node-4
+    put-of-node-requires-4
     put-byte-requires
     same-length
     returns
@@ -179,4 +209,8 @@ put-action-spec =
     same-length-10
     returns-10
     same-length-11
-    returns-11)
+    returns-11
+    same-length-12
+    returns-12
+    same-length-13
+    returns-13)
