@@ -85,8 +85,10 @@ fieldOf kind place =
     (cond (eqb kind 3) (cond (eqb place 1) 6 (cond (eqb place 2) 7 0))
     (cond (eqb kind 4) (ofFirst place 8)
     (cond (eqb kind 7) (ofFirst place 9)
-    (cond (eqb kind 11) (ofFirst place 10)
-    0)))))
+    (cond (eqb kind 11) (ofFirst place 12)
+    (cond (eqb kind 12) (ofFirst place 13)
+    (cond (eqb kind 13) (ofFirst place 10)
+    0)))))))
 
 -- "THE FIELD is `the node of clock`, […] or for what follows a `*` `the count after *`."
 unfoldable pub fieldWords : ℕ → List ℕ
@@ -102,7 +104,9 @@ fieldWords field =
     (cond (eqb field 9) (ascii "the address of change")
     (cond (eqb field 10) (ascii "the number of nodes")
     (cond (eqb field 11) (ascii "the label of request")
-    (ascii "the count after *")))))))))))
+    (cond (eqb field 12) (ascii "the node of ask")
+    (cond (eqb field 13) (ascii "the node of decide")
+    (ascii "the count after *")))))))))))))
 
 -- "`, at most ` 255 or 4294967295"
 abbrev pub mostWords : ℕ → List ℕ

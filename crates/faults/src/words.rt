@@ -202,7 +202,9 @@ fn field_of(kind: u8, place: u8) -> u8
         },
         4 => of_first(place, 8),
         7 => of_first(place, 9),
-        11 => of_first(place, 10),
+        11 => of_first(place, 12),
+        12 => of_first(place, 13),
+        13 => of_first(place, 10),
         _ => 0,
     }
 }
@@ -224,6 +226,8 @@ fn put_field(buf: &mut [u8], at: usize, field: u8) -> usize
         9 => write::put_word(buf, at, b"the address of change"),
         10 => write::put_word(buf, at, b"the number of nodes"),
         11 => write::put_word(buf, at, b"the label of request"),
+        12 => write::put_word(buf, at, b"the node of ask"),
+        13 => write::put_word(buf, at, b"the node of decide"),
         _ => write::put_word(buf, at, b"the count after *"),
     }
 }

@@ -16,6 +16,12 @@ of-first-requires-3 c κs = search needs
 of-first-requires-4 : tie.Need-of-first-requires-4
 of-first-requires-4 c κs = search needs
 
+of-first-requires-5 : tie.Need-of-first-requires-5
+of-first-requires-5 c κs = search needs
+
+of-first-requires-6 : tie.Need-of-first-requires-6
+of-first-requires-6 c κs = search needs
+
 returns : tie.Need-returns
 unfolding fieldOf
 returns c = simp (c .before .match .keys1, c .match2 .keys1)
@@ -70,7 +76,15 @@ returns-13 c = simp (c .before .match .keys6, c .of-first4 .ensures)
 
 returns-14 : tie.Need-returns-14
 unfolding fieldOf
-returns-14 c = simp (ne-eqb _ _ (c .match .rest .0 .0 .0 .0 .0 .1), ne-eqb _ _ (c .match .rest .0 .0 .0 .0 .1), ne-eqb _ _ (c .match .rest .0 .0 .0 .1), ne-eqb _ _ (c .match .rest .0 .0 .1), ne-eqb _ _ (c .match .rest .0 .1), ne-eqb _ _ (c .match .rest .1))
+returns-14 c = simp (c .before .match .keys7, c .of-first5 .ensures)
+
+returns-15 : tie.Need-returns-15
+unfolding fieldOf
+returns-15 c = simp (c .before .match .keys8, c .of-first6 .ensures)
+
+returns-16 : tie.Need-returns-16
+unfolding fieldOf
+returns-16 c = simp (ne-eqb _ _ (c .match .rest .0 .0 .0 .0 .0 .0 .0 .1), ne-eqb _ _ (c .match .rest .0 .0 .0 .0 .0 .0 .1), ne-eqb _ _ (c .match .rest .0 .0 .0 .0 .0 .1), ne-eqb _ _ (c .match .rest .0 .0 .0 .0 .1), ne-eqb _ _ (c .match .rest .0 .0 .0 .1), ne-eqb _ _ (c .match .rest .0 .0 .1), ne-eqb _ _ (c .match .rest .0 .1), ne-eqb _ _ (c .match .rest .1))
 
 pub field-of-spec : {M : Type 1} → statement M
 field-of-spec =
@@ -80,6 +94,8 @@ field-of-spec =
     of-first-requires-2
     of-first-requires-3
     of-first-requires-4
+    of-first-requires-5
+    of-first-requires-6
     returns
     returns-2
     returns-3
@@ -93,4 +109,6 @@ field-of-spec =
     returns-11
     returns-12
     returns-13
-    returns-14)
+    returns-14
+    returns-15
+    returns-16)
