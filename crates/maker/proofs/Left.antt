@@ -8,13 +8,13 @@ use Rattle.transcript.specs.Lines.{cellText}
 use Rattle.maker.specs.Printed.{byteAfter, cellsText}
 
 abbrev pub left : ℕ → List ℕ
-left k = cellsText (336 - k) k
+left k = cellsText (350 - k) k
 
-pub left-more : (k : ℕ) → k < 336 → left k ≡ (cellText (entry (k / 14) (k % 14)) ++ (byteAfter (k % 14) ∷ [])) ++ left (k + 1)
+pub left-more : (k : ℕ) → k < 350 → left k ≡ (cellText (entry (k / 14) (k % 14)) ++ (byteAfter (k % 14) ∷ [])) ++ left (k + 1)
 left-more k h =
-    let e : 336 - k ≡ suc (336 - (k + 1)) = omega arith in
+    let e : 350 - k ≡ suc (350 - (k + 1)) = omega arith in
     let f : suc k ≡ k + 1 = omega arith in
-    ap (λ j. cellsText j k) e ∙ ap (λ i. (cellText (entry (k / 14) (k % 14)) ++ (byteAfter (k % 14) ∷ [])) ++ cellsText (336 - (k + 1)) i) f
+    ap (λ j. cellsText j k) e ∙ ap (λ i. (cellText (entry (k / 14) (k % 14)) ++ (byteAfter (k % 14) ∷ [])) ++ cellsText (350 - (k + 1)) i) f
 
-pub left-none : (k : ℕ) → 336 ≤ k → left k ≡ []
-left-none k h = let e : 336 - k ≡ 0 = omega arith in ap (λ j. cellsText j k) e
+pub left-none : (k : ℕ) → 350 ≤ k → left k ≡ []
+left-none k h = let e : 350 - k ≡ 0 = omega arith in ap (λ j. cellsText j k) e

@@ -10,10 +10,10 @@ use Rattle.transcript.specs.Lines.{cellText}
 abbrev pub byteAfter : ℕ → ℕ
 byteAfter c = cond (eqb c 13) 10 32
 
--- the text of k cells from the i-th on, mode by mode; of all 24 × 14
+-- the text of k cells from the i-th on, mode by mode; of all 25 × 14
 abbrev pub cellsText : ℕ → ℕ → List ℕ
 cellsText zero i = []
 cellsText (suc k) i = (cellText (entry (i / 14) (i % 14)) ++ (byteAfter (i % 14) ∷ [])) ++ cellsText k (suc i)
 
 unfoldable pub tableText : List ℕ
-tableText = cellsText 336 0
+tableText = cellsText 350 0

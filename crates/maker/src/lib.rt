@@ -5,8 +5,8 @@ ghost use lib.ListN.{length};
 ghost use Rattle.transcript.specs.Room.{put};
 ghost use Rattle.maker.specs.Printed.{byteAfter, tableText};
 
-// 24 modes by 14 classes of signals.
-const CELLS: u16 = 336;
+// 25 modes by 14 classes of signals.
+const CELLS: u16 = 350;
 
 const CLASSES: u16 = 14;
 
@@ -21,8 +21,8 @@ fn byte_after(class: u16) -> u8
 }
 
 // Puts the table at the start of `out`. The answer is its length.
-pub fn put_table(out: &mut [u8; 4096]) -> usize
-    ensures { λ r. ⌜ r ≤ 4096 ⌝ }
+pub fn put_table(out: &mut [u8; 8192]) -> usize
+    ensures { λ r. ⌜ r ≤ 8192 ⌝ }
     ensures { λ r. ⌜ r ≡ length tableText ⌝ }
     ensures { λ _. ⌜ now (out .exit) ≡ put (now (out .entry)) 0 tableText ⌝ }
 {

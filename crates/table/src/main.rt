@@ -2,7 +2,7 @@
 use stream::Held;
 
 // Writes the table by way of a buffer.
-fn print(text: &mut [u8; 4096]) {
+fn print(text: &mut [u8; 8192]) {
     let end = maker::put_table(text);
     let held = Held {
         used: end,
@@ -14,6 +14,6 @@ fn print(text: &mut [u8; 4096]) {
 }
 
 fn main() {
-    let mut text = [0u8; 4096];
+    let mut text = [0u8; 8192];
     print(&mut text);
 }

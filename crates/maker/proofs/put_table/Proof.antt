@@ -17,10 +17,10 @@ use Rattle.maker.proofs.put_table.Tie as tie
 -- whoever puts what is left from here on has put the table
 abbrev Inv-loop : tie.InvT-loop
 Inv-loop out₀ end₀ k₀ out end k =
-    (k ≤ 336) × (end ≤ 12 * k) × ((stop : ℕ) (last : List ℕ) → Puts out end (left k) stop last → Puts out₀ 0 tableText stop last)
+    (k ≤ 350) × (end ≤ 12 * k) × ((stop : ℕ) (last : List ℕ) → Puts out end (left k) stop last → Puts out₀ 0 tableText stop last)
 
 abbrev μ-loop : tie.MeasureT-loop
-μ-loop out₀ end₀ k₀ out end k = 336 - k
+μ-loop out₀ end₀ k₀ out end k = 350 - k
 
 loop-holds : tie.Need-loop-holds Inv-loop μ-loop
 unfolding tableText
@@ -53,7 +53,7 @@ loop-again c =
     let more = c .before .before .before .before .loop-test .taken in
     let put = c .put-cell .ensures in
     let text = cellText (entry (l .k / 14) (l .k % 14)) ++ (byteAfter (l .k % 14) ∷ []) in
-    let long : length (l .out) ≡ 4096 = search (needs, c .before .before .put-cell-arg .given) in
+    let long : length (l .out) ≡ 8192 = search (needs, c .before .before .put-cell-arg .given) in
     let cell : Puts (l .out) (l .end) text (c .put-cell .result) (c .put-cell .last .0) =
     puts-line (omega (arith, more, l .inv .1)) (rw (c .before .byte-after .ensures, c .before .before .before .rule .ensures) at (put .1 .0)) (rw (c .before .byte-after .ensures, c .before .before .before .rule .ensures) at (put .1 .1)) in
     (omega (arith, more), omega (arith, put .0, l .inv .1), λ stop last p. l .inv .2 stop last (rw (left-more (l .k) more) (and-then cell p)))
