@@ -109,19 +109,19 @@ token-change : tokenOf (ascii "change") ≡ Word 7
 unfolding tokenOf nameOf digitOf
 token-change = refl
 
-token-nodes : tokenOf (ascii "nodes") ≡ Word 11
+token-nodes : tokenOf (ascii "nodes") ≡ Word 13
 unfolding tokenOf nameOf digitOf
 token-nodes = refl
 
-token-all : tokenOf (ascii "all") ≡ Word 12
+token-all : tokenOf (ascii "all") ≡ Word 14
 unfolding tokenOf nameOf digitOf
 token-all = refl
 
-token-hold : tokenOf (ascii "hold") ≡ Word 13
+token-hold : tokenOf (ascii "hold") ≡ Word 15
 unfolding tokenOf nameOf digitOf
 token-hold = refl
 
-token-label : tokenOf (ascii "label") ≡ Word 15
+token-label : tokenOf (ascii "label") ≡ Word 17
 unfolding tokenOf nameOf digitOf
 token-label = refl
 
@@ -129,7 +129,7 @@ token-label = refl
 record Address (x : ℕ) (w : List ℕ) : Type 0 where
   good : Good w
   short : length w ≤ 3
-  token : tokenOf w ≡ cond (eqb x everybody) (Word 12) (Number x)
+  token : tokenOf w ≡ cond (eqb x everybody) (Word 14) (Number x)
 
 address-word : (x : ℕ) → x < 256 → Address x (addressWord x)
 unfolding addressWord
@@ -141,13 +141,13 @@ address-word x h = go (eqb x everybody) refl
 
 -- what the words of each form say; the label of a request is what l, the words after its data, say
 say-request : (node address label header datum : ℕ) (l : List Token) → node < 256 → address < 256 → header < 4294967296 → datum < 4294967296 → labelIn l ≡ got label []
-    → saidBy (Word 1 ∷ Number node ∷ cond (eqb address everybody) (Word 12) (Number address) ∷ Number header ∷ Number datum ∷ l)
+    → saidBy (Word 1 ∷ Number node ∷ cond (eqb address everybody) (Word 14) (Number address) ∷ Number header ∷ Number datum ∷ l)
     ≡ Acts (recordOf 1 node address 0 0 label header datum) 1
 unfolding saidBy namedOf actionOf requestOf numberIn addressIn endingOf
 say-request node address label header datum l p q r s t = go (eqb address everybody) refl
   where
     go : (b : Bool) → eqb address everybody ≡ b
-        → saidBy (Word 1 ∷ Number node ∷ cond b (Word 12) (Number address) ∷ Number header ∷ Number datum ∷ l) ≡ Acts (recordOf 1 node address 0 0 label header datum) 1
+        → saidBy (Word 1 ∷ Number node ∷ cond b (Word 14) (Number address) ∷ Number header ∷ Number datum ∷ l) ≡ Acts (recordOf 1 node address 0 0 label header datum) 1
     go true e =
         let n1 = le-leb node 255 (omega arith) in
         let n3 = le-leb header 4294967295 (omega arith) in
@@ -164,7 +164,7 @@ no-label : labelIn [] ≡ got 0 []
 unfolding labelIn
 no-label = refl
 
-say-label : (label : ℕ) → label < 256 → labelIn (Word 15 ∷ Number label ∷ []) ≡ got label []
+say-label : (label : ℕ) → label < 256 → labelIn (Word 17 ∷ Number label ∷ []) ≡ got label []
 unfolding labelIn numberIn
 say-label label p = rw (le-leb label 255 (omega arith))
 
@@ -172,16 +172,16 @@ say-respond : (node ack : ℕ) → node < 256 → ack < 256 → saidBy (Word 3 �
 unfolding saidBy namedOf actionOf respondOf numberIn holdIn endingOf
 say-respond node ack p q = rw (le-leb node 255 (omega arith), le-leb ack 255 (omega arith))
 
-say-hold : (node ack : ℕ) → node < 256 → ack < 256 → saidBy (Word 3 ∷ Number node ∷ Number ack ∷ Word 13 ∷ []) ≡ Acts (recordOf 3 node 0 ack 1 0 0 0) 1
+say-hold : (node ack : ℕ) → node < 256 → ack < 256 → saidBy (Word 3 ∷ Number node ∷ Number ack ∷ Word 15 ∷ []) ≡ Acts (recordOf 3 node 0 ack 1 0 0 0) 1
 unfolding saidBy namedOf actionOf respondOf numberIn holdIn endingOf
 say-hold node ack p q = rw (le-leb node 255 (omega arith), le-leb ack 255 (omega arith))
 
 say-change : (address : ℕ) → address < 256
-    → saidBy (Word 7 ∷ cond (eqb address everybody) (Word 12) (Number address) ∷ []) ≡ Acts (recordOf 7 0 address 0 0 0 0 0) 1
+    → saidBy (Word 7 ∷ cond (eqb address everybody) (Word 14) (Number address) ∷ []) ≡ Acts (recordOf 7 0 address 0 0 0 0 0) 1
 unfolding saidBy namedOf actionOf changeOf addressOrNone endingOf
 say-change address p = go (eqb address everybody) refl
   where
-    go : (b : Bool) → eqb address everybody ≡ b → saidBy (Word 7 ∷ cond b (Word 12) (Number address) ∷ []) ≡ Acts (recordOf 7 0 address 0 0 0 0 0) 1
+    go : (b : Bool) → eqb address everybody ≡ b → saidBy (Word 7 ∷ cond b (Word 14) (Number address) ∷ []) ≡ Acts (recordOf 7 0 address 0 0 0 0 0) 1
     go true e = rw (eqb-true address everybody e)
     go false e = rw (le-leb address 255 (omega arith))
 
@@ -206,7 +206,7 @@ module _ (a : Action) (f : Fits a) (s : Shown a) where
       (same-action a k 0 0 0 0 0 0 0 0 0 e (z .node (rw e nn)) (z .address (rw e na)) (z .ack (rw e nk)) (z .hold (rw e nk)) (z .label (rw e np)) (z .six) (z .seven)
       (z .header (rw e np)) (z .datum (rw e np)))))
 
-  -- "`arbitrate 0`", "`clock 0`"
+  -- "`arbitrate 0`", "`clock 0`"; "`ask NODE`", "`decide NODE`"
   of-node : (k : ℕ) (w : List ℕ) → a .kind ≡ k → wordsFor a ≡ w ∷ decimal (a .node) ∷ [] → Good w → length w ≤ 9 → tokenOf w ≡ Word k
       → saidBy (Word k ∷ Number (a .node) ∷ []) ≡ Acts (recordOf k (a .node) 0 0 0 0 0 0) 1
       → namesAddress k ≡ false → namesAnswer k ≡ false → namesPacket k ≡ false → lineOf (spaced (wordsFor a)) ≡ Acts a 1
@@ -328,21 +328,23 @@ module _ (a : Action) (f : Fits a) (s : Shown a) where
           said-line (ascii "change" ∷ addressWord (a .address) ∷ []) (good-by _ _ refl, (to .good, tt)) (omega arith)
           ∙ (rw (token-change, to .token) (say-change (a .address) (f .address-fits)) ∙ ap (λ (x : Action). Acts x 1) (whole (a .address) refl))
 
--- a property of the ten kinds
-ten : (P : ℕ → Type 0) → P 1 → P 2 → P 3 → P 4 → P 5 → P 6 → P 7 → P 8 → P 9 → P 10 → (k : ℕ) → isKind k ≡ true → P k
-ten P p1 p2 p3 p4 p5 p6 p7 p8 p9 p10 zero h = absurd (let z : _≡_ {A = ℕ} 0 1 = cc in omega arith)
-ten P p1 p2 p3 p4 p5 p6 p7 p8 p9 p10 (suc zero) h = p1
-ten P p1 p2 p3 p4 p5 p6 p7 p8 p9 p10 (suc (suc zero)) h = p2
-ten P p1 p2 p3 p4 p5 p6 p7 p8 p9 p10 (suc (suc (suc zero))) h = p3
-ten P p1 p2 p3 p4 p5 p6 p7 p8 p9 p10 (suc (suc (suc (suc zero)))) h = p4
-ten P p1 p2 p3 p4 p5 p6 p7 p8 p9 p10 (suc (suc (suc (suc (suc zero))))) h = p5
-ten P p1 p2 p3 p4 p5 p6 p7 p8 p9 p10 (suc (suc (suc (suc (suc (suc zero)))))) h = p6
-ten P p1 p2 p3 p4 p5 p6 p7 p8 p9 p10 (suc (suc (suc (suc (suc (suc (suc zero))))))) h = p7
-ten P p1 p2 p3 p4 p5 p6 p7 p8 p9 p10 (suc (suc (suc (suc (suc (suc (suc (suc zero)))))))) h = p8
-ten P p1 p2 p3 p4 p5 p6 p7 p8 p9 p10 (suc (suc (suc (suc (suc (suc (suc (suc (suc zero))))))))) h = p9
-ten P p1 p2 p3 p4 p5 p6 p7 p8 p9 p10 (suc (suc (suc (suc (suc (suc (suc (suc (suc (suc zero)))))))))) h = p10
-ten P p1 p2 p3 p4 p5 p6 p7 p8 p9 p10 (suc (suc (suc (suc (suc (suc (suc (suc (suc (suc (suc k))))))))))) h =
-    absurd (let small = ltb-true (suc (suc (suc (suc (suc (suc (suc (suc (suc (suc (suc k))))))))))) 11 (and-right (ltb 0 (suc (suc (suc (suc (suc (suc (suc (suc (suc (suc (suc k)))))))))))) _ h) in omega arith)
+-- a property of the twelve kinds
+twelve : (P : ℕ → Type 0) → P 1 → P 2 → P 3 → P 4 → P 5 → P 6 → P 7 → P 8 → P 9 → P 10 → P 11 → P 12 → (k : ℕ) → isKind k ≡ true → P k
+twelve P p1 p2 p3 p4 p5 p6 p7 p8 p9 p10 p11 p12 zero h = absurd (let z : _≡_ {A = ℕ} 0 1 = cc in omega arith)
+twelve P p1 p2 p3 p4 p5 p6 p7 p8 p9 p10 p11 p12 (suc zero) h = p1
+twelve P p1 p2 p3 p4 p5 p6 p7 p8 p9 p10 p11 p12 (suc (suc zero)) h = p2
+twelve P p1 p2 p3 p4 p5 p6 p7 p8 p9 p10 p11 p12 (suc (suc (suc zero))) h = p3
+twelve P p1 p2 p3 p4 p5 p6 p7 p8 p9 p10 p11 p12 (suc (suc (suc (suc zero)))) h = p4
+twelve P p1 p2 p3 p4 p5 p6 p7 p8 p9 p10 p11 p12 (suc (suc (suc (suc (suc zero))))) h = p5
+twelve P p1 p2 p3 p4 p5 p6 p7 p8 p9 p10 p11 p12 (suc (suc (suc (suc (suc (suc zero)))))) h = p6
+twelve P p1 p2 p3 p4 p5 p6 p7 p8 p9 p10 p11 p12 (suc (suc (suc (suc (suc (suc (suc zero))))))) h = p7
+twelve P p1 p2 p3 p4 p5 p6 p7 p8 p9 p10 p11 p12 (suc (suc (suc (suc (suc (suc (suc (suc zero)))))))) h = p8
+twelve P p1 p2 p3 p4 p5 p6 p7 p8 p9 p10 p11 p12 (suc (suc (suc (suc (suc (suc (suc (suc (suc zero))))))))) h = p9
+twelve P p1 p2 p3 p4 p5 p6 p7 p8 p9 p10 p11 p12 (suc (suc (suc (suc (suc (suc (suc (suc (suc (suc zero)))))))))) h = p10
+twelve P p1 p2 p3 p4 p5 p6 p7 p8 p9 p10 p11 p12 (suc (suc (suc (suc (suc (suc (suc (suc (suc (suc (suc zero))))))))))) h = p11
+twelve P p1 p2 p3 p4 p5 p6 p7 p8 p9 p10 p11 p12 (suc (suc (suc (suc (suc (suc (suc (suc (suc (suc (suc (suc zero)))))))))))) h = p12
+twelve P p1 p2 p3 p4 p5 p6 p7 p8 p9 p10 p11 p12 (suc (suc (suc (suc (suc (suc (suc (suc (suc (suc (suc (suc (suc k))))))))))))) h =
+    absurd (let small = ltb-true (suc (suc (suc (suc (suc (suc (suc (suc (suc (suc (suc (suc (suc k))))))))))))) 13 (and-right (ltb 0 (suc (suc (suc (suc (suc (suc (suc (suc (suc (suc (suc (suc (suc k)))))))))))))) _ h) in omega arith)
 
 -- for every action record that the writer takes for some n, its printed line says that action, once
 pub line-back : (n : ℕ) (a : Action) (m : Move) → Fits a → read n a ≡ D.Accepted m → lineOf (spaced (wordsFor a)) ≡ Acts a 1
@@ -351,7 +353,7 @@ line-back n a m f h =
     let s = shown n a m h in
     let small = f .node-fits in
     let fits = le-leb (a .node) 255 (omega arith) in
-    ten (λ (k : ℕ). a .kind ≡ k → lineOf (spaced (wordsFor a)) ≡ Acts a 1)
+    twelve (λ (k : ℕ). a .kind ≡ k → lineOf (spaced (wordsFor a)) ≡ Acts a 1)
     (request a f s)
     (λ e. of-node a f s 2 (ascii "arbitrate") e (rw e) (good-by _ _ refl) (omega arith) refl (rw fits) refl refl refl)
     (respond a f s)
@@ -362,4 +364,6 @@ line-back n a m f h =
     (λ e. bare a f s 8 (ascii "grant") e (rw e) (good-by _ _ refl) (omega arith) refl refl refl refl refl refl)
     (λ e. bare a f s 9 (ascii "gap") e (rw e) (good-by _ _ refl) (omega arith) refl refl refl refl refl refl)
     (λ e. bare a f s 10 (ascii "reset") e (rw e) (good-by _ _ refl) (omega arith) refl refl refl refl refl refl)
+    (λ e. of-node a f s 11 (ascii "ask") e (rw e) (good-by _ _ refl) (omega arith) refl (rw fits) refl refl refl)
+    (λ e. of-node a f s 12 (ascii "decide") e (rw e) (good-by _ _ refl) (omega arith) refl (rw fits) refl refl refl)
     (a .kind) (s .kind) refl

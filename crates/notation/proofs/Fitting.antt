@@ -144,7 +144,9 @@ action-fitting kind l k =
     (either (eqb kind 3) _ _ (λ e. respond-fitting l)
     (either (eqb kind 4) _ _ (λ e. node-fitting 4 l (omega arith))
     (either (eqb kind 7) _ _ (λ e. change-fitting l)
-    (ending-fitting _ l (record-fits kind 0 0 0 0 0 0 0 k (omega arith) (omega arith) (omega arith) (omega arith) (omega arith) (omega arith) (omega arith)))))))
+    (either (eqb kind 11) _ _ (λ e. node-fitting 11 l (omega arith))
+    (either (eqb kind 12) _ _ (λ e. node-fitting 12 l (omega arith))
+    (ending-fitting _ l (record-fits kind 0 0 0 0 0 0 0 k (omega arith) (omega arith) (omega arith) (omega arith) (omega arith) (omega arith) (omega arith)))))))))
 
 nodes-fitting : (l : List Token) → Fitting (nodesOf l)
 unfolding nodesOf
@@ -153,7 +155,7 @@ nodes-fitting l = then-fitting byte (numberIn byte l) nodesThen (number-most byt
 named-fitting : (k : ℕ) (l : List Token) → Fitting (namedOf k l)
 unfolding namedOf
 named-fitting k l =
-    either (isKind k) (actionOf k l) _ (λ e. let small = ltb-true k 11 (and-right (ltb 0 k) _ e) in action-fitting k l (omega arith))
+    either (isKind k) (actionOf k l) _ (λ e. let small = ltb-true k 13 (and-right (ltb 0 k) _ e) in action-fitting k l (omega arith))
     (either (eqb k W.nodes) (nodesOf l) (Wrong UnknownWord) (λ e. nodes-fitting l) tt)
 
 said-fitting : (l : List Token) → Fitting (saidBy l)

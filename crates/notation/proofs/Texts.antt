@@ -78,7 +78,9 @@ words-good a =
     (either (eqb k 7) _ _ (good-by _ _ refl, either (eqb (a .address) 0) _ _ tt (address-good (a .address), tt))
     (either (eqb k 8) _ _ (good-by _ _ refl, tt)
     (either (eqb k 9) _ _ (good-by _ _ refl, tt)
-    (either (eqb k 10) _ _ (good-by _ _ refl, tt) tt)))))))))
+    (either (eqb k 10) _ _ (good-by _ _ refl, tt)
+    (either (eqb k 11) _ _ (good-by _ _ refl, (figure (a .node), tt))
+    (either (eqb k 12) _ _ (good-by _ _ refl, (figure (a .node), tt)) tt)))))))))))
 
 -- the lines of the actions
 abbrev lineWords : List Action → List (List ℕ)
@@ -105,11 +107,11 @@ actions-back n i done (a ∷ l) h g =
     ∙ ap₂ (λ (j : ℕ) (x : List Action). endOn j n x) e (append-assoc done (a ∷ []) l))
 
 -- the `nodes` line
-say-nodes : (n : ℕ) → n < 256 → saidBy (Word 11 ∷ Number n ∷ []) ≡ Nodes n
+say-nodes : (n : ℕ) → n < 256 → saidBy (Word 13 ∷ Number n ∷ []) ≡ Nodes n
 unfolding saidBy namedOf nodesOf numberIn lastOf
 say-nodes n h = rw (le-leb n 255 (omega arith))
 
-token-nodes : tokenOf (ascii "nodes") ≡ Word 11
+token-nodes : tokenOf (ascii "nodes") ≡ Word 13
 unfolding tokenOf nameOf digitOf
 token-nodes = refl
 

@@ -36,8 +36,11 @@ examples :
     × (told 5 2 (ascii "request 0 1 5 6 * x") F.NotNumber ≡ ascii "line 5: not a number: \"x\", the count after *\n")
     × (told 6 2 (ascii "request 0 1 5 6 label 7 * x") F.NotNumber ≡ ascii "line 6: not a number: \"x\", the count after *\n")
     × (told 7 2 (ascii "request 0 1 5 6 7") F.ExtraField ≡ ascii "line 7: extra field: \"7\"\n")
+    × (told 8 2 (ascii "ask x") F.NotNumber ≡ ascii "line 8: not a number: \"x\", the node of ask\n")
+    × (told 9 2 (ascii "decide # 1") F.MissingField ≡ ascii "line 9: missing field: the node of decide\n")
+    × (told 1 0 (ascii "nodes 256") F.TooLarge ≡ ascii "line 1: number too large: \"256\", the number of nodes, at most 255\n")
     × (told 2 2 (ascii "pass" ++ (194 ∷ 160 ∷ ascii "* 2")) F.UnknownWord ≡ ascii "line 2: unknown word: \"pass\\xC2\\xA0*\" (a no-break space: write a plain one)\n")
     × (told 1 0 (255 ∷ 254 ∷ 110 ∷ 0 ∷ []) F.UnknownWord ≡ ascii "line 1: unknown word: \"\\xFF\\xFEn\\x00\" (no plain text: UTF-16, or a binary file)\n")
     × (told 1 0 (replicate 70 97) F.UnknownWord ≡ ascii "line 1: unknown word: \"" ++ (replicate 64 97 ++ ascii "..\"\n"))
 unfolding faultWords shownByte shown hint fieldOf fieldWords causeWords faultLine decimal nameOf digitOf digitsOf tokenOf tokensOf numberIn addressIn addressOrNone holdIn labelIn lastOf repeatOf endingOf requestOf nodeOf respondOf changeOf actionOf nodesOf namedOf saidBy lineOf isWrong endsWith isAt firstIn wordIn statementIn refusalOf placeAt blameIn blameOf
-examples = (refl, refl, refl, refl, refl, refl, refl, refl, refl, refl, refl, refl, refl, refl, refl, refl, refl, refl, refl)
+examples = (refl, refl, refl, refl, refl, refl, refl, refl, refl, refl, refl, refl, refl, refl, refl, refl, refl, refl, refl, refl, refl, refl)

@@ -114,7 +114,7 @@ requestOf l =
     after (labelIn l4) λ label l5.
     endingOf (recordOf 1 node address 0 0 label header datum) l5
 
--- "`arbitrate 0`", "`clock 0`"
+-- "`arbitrate 0`", "`clock 0`"; "`ask NODE`", "`decide NODE`"
 unfoldable pub nodeOf : ℕ → List Token → Line
 nodeOf kind l =
     after (numberIn byte l) λ node l1.
@@ -142,7 +142,9 @@ actionOf kind l =
     (cond (eqb kind 3) (respondOf l)
     (cond (eqb kind 4) (nodeOf 4 l)
     (cond (eqb kind 7) (changeOf l)
-    (endingOf (recordOf kind 0 0 0 0 0 0 0) l)))))
+    (cond (eqb kind 11) (nodeOf 11 l)
+    (cond (eqb kind 12) (nodeOf 12 l)
+    (endingOf (recordOf kind 0 0 0 0 0 0 0) l)))))))
 
 -- "`nodes 3` first"
 abbrev pub nodesThen : ℕ → List Token → Line

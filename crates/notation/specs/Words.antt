@@ -40,26 +40,26 @@ same [] (c ∷ m) = false
 same (b ∷ l) [] = false
 same (b ∷ l) (c ∷ m) = eqb b c && same l m
 
--- document 01's words of the ten kinds, in the order of the kinds; then the five other words
+-- document 01's words of the ten kinds and the two of request 6, in the order of the kinds; then the five other words
 abbrev pub names : List (List ℕ)
 names =
     ascii "request" ∷ ascii "arbitrate" ∷ ascii "respond" ∷ ascii "clock" ∷ ascii "pass" ∷ ascii "lose" ∷ ascii "change" ∷ ascii "grant" ∷ ascii "gap"
-    ∷ ascii "reset" ∷ ascii "nodes" ∷ ascii "all" ∷ ascii "hold" ∷ ascii "*" ∷ ascii "label" ∷ []
+    ∷ ascii "reset" ∷ ascii "ask" ∷ ascii "decide" ∷ ascii "nodes" ∷ ascii "all" ∷ ascii "hold" ∷ ascii "*" ∷ ascii "label" ∷ []
 
 abbrev pub nodes : ℕ
-nodes = 11
+nodes = 13
 
 abbrev pub all : ℕ
-all = 12
+all = 14
 
 abbrev pub hold : ℕ
-hold = 13
+hold = 15
 
 abbrev pub times : ℕ
-times = 14
+times = 16
 
 abbrev pub label : ℕ
-label = 15
+label = 17
 
 -- the place of a word among names of which the first has place k; 0 for an unknown word
 abbrev pub placeIn : ℕ → List (List ℕ) → List ℕ → ℕ

@@ -299,6 +299,8 @@ fn of_kind(line: &[u8], kind: u8, c: Cursor) -> Line
         3 => respond(line, c),
         4 => of_node(line, 4, c),
         7 => change(line, c),
+        11 => of_node(line, 11, c),
+        12 => of_node(line, 12, c),
         _ => ending(line, action(kind, 0, 0, 0, 0, 0, 0, 0), c),
     }
 }
@@ -317,7 +319,7 @@ fn is_kind(k: u8) -> bool
     ensures { λ r. ⌜ r ≡ isKind k ⌝ }
 {
     if 0 < k {
-        return k < 11;
+        return k < 13;
     }
     false
 }

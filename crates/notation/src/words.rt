@@ -7,15 +7,15 @@ ghost use lib.ListN.{length, take, drop, getD};
 ghost use Rattle.notation.specs.Words.{isBlank, endsWord, same, names, nameOf, digitOf, digitsOf, isHex, tokenOf, limit, capped, valueOf};
 ghost use Rattle.notation.specs.Cursors.{tokensLeft, stepped};
 
-pub(crate) const NODES: u8 = 11;
+pub(crate) const NODES: u8 = 13;
 
-pub(crate) const ALL: u8 = 12;
+pub(crate) const ALL: u8 = 14;
 
-pub(crate) const HOLD: u8 = 13;
+pub(crate) const HOLD: u8 = 15;
 
-pub(crate) const TIMES: u8 = 14;
+pub(crate) const TIMES: u8 = 16;
 
-pub(crate) const LABEL: u8 = 15;
+pub(crate) const LABEL: u8 = 17;
 
 const LIMIT: u64 = 4294967296;
 
@@ -76,7 +76,7 @@ fn is_same(a: &[u8], b: &[u8]) -> bool
 
 // Whether a word is the name with that place.
 fn is_name(w: &[u8], k: u8) -> bool
-    requires { ⌜ k < 15 ⌝ }
+    requires { ⌜ k < 17 ⌝ }
     ensures { λ r. ⌜ r ≡ same (now (w .entry)) (getD names k []) ⌝ }
 {
     match k {
@@ -90,10 +90,12 @@ fn is_name(w: &[u8], k: u8) -> bool
         7 => is_same(w, b"grant"),
         8 => is_same(w, b"gap"),
         9 => is_same(w, b"reset"),
-        10 => is_same(w, b"nodes"),
-        11 => is_same(w, b"all"),
-        12 => is_same(w, b"hold"),
-        13 => is_same(w, b"*"),
+        10 => is_same(w, b"ask"),
+        11 => is_same(w, b"decide"),
+        12 => is_same(w, b"nodes"),
+        13 => is_same(w, b"all"),
+        14 => is_same(w, b"hold"),
+        15 => is_same(w, b"*"),
         _ => is_same(w, b"label"),
     }
 }
@@ -103,7 +105,7 @@ fn name(w: &[u8]) -> u8
     ensures { λ r. ⌜ r ≡ nameOf (now (w .entry)) ⌝ }
 {
     let mut k: u8 = 0;
-    while k < 15 {
+    while k < 17 {
         if is_name(w, k) {
             return k + 1;
         }

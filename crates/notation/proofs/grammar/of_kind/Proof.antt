@@ -19,6 +19,12 @@ of-node-requires-2 c κs = search needs
 change-requires : tie.Need-change-requires
 change-requires c κs = search needs
 
+of-node-requires-3 : tie.Need-of-node-requires-3
+of-node-requires-3 c κs = search needs
+
+of-node-requires-4 : tie.Need-of-node-requires-4
+of-node-requires-4 c κs = search needs
+
 action-requires : tie.Need-action-requires
 action-requires c κs = search needs
 
@@ -47,7 +53,15 @@ returns-5 c = simp (c .before .match .keys5, c .change .ensures)
 
 returns-6 : tie.Need-returns-6
 unfolding actionOf
-returns-6 c = simp (ne-eqb _ _ (c .before .before .match .rest .0 .0 .0 .0 .1), ne-eqb _ _ (c .before .before .match .rest .0 .0 .0 .1), ne-eqb _ _ (c .before .before .match .rest .0 .0 .1), ne-eqb _ _ (c .before .before .match .rest .0 .1), ne-eqb _ _ (c .before .before .match .rest .1), c .before .action .ensures, c .ending .ensures)
+returns-6 c = simp (c .before .match .keys6, c .of-node3 .ensures)
+
+returns-7 : tie.Need-returns-7
+unfolding actionOf
+returns-7 c = simp (c .before .match .keys7, c .of-node4 .ensures)
+
+returns-8 : tie.Need-returns-8
+unfolding actionOf
+returns-8 c = simp (ne-eqb _ _ (c .before .before .match .rest .0 .0 .0 .0 .0 .0 .1), ne-eqb _ _ (c .before .before .match .rest .0 .0 .0 .0 .0 .1), ne-eqb _ _ (c .before .before .match .rest .0 .0 .0 .0 .1), ne-eqb _ _ (c .before .before .match .rest .0 .0 .0 .1), ne-eqb _ _ (c .before .before .match .rest .0 .0 .1), ne-eqb _ _ (c .before .before .match .rest .0 .1), ne-eqb _ _ (c .before .before .match .rest .1), c .before .action .ensures, c .ending .ensures)
 
 pub of-kind-spec : {M : Type 1} → statement M
 of-kind-spec =
@@ -58,6 +72,8 @@ of-kind-spec =
     respond-requires
     of-node-requires-2
     change-requires
+    of-node-requires-3
+    of-node-requires-4
     action-requires
     ending-requires
     returns
@@ -65,4 +81,6 @@ of-kind-spec =
     returns-3
     returns-4
     returns-5
-    returns-6)
+    returns-6
+    returns-7
+    returns-8)

@@ -94,6 +94,18 @@ slice-aggregate-is-same-15 c = search needs
 is-same-requires-15 : tie.Need-is-same-requires-15
 is-same-requires-15 c κs = search needs
 
+slice-aggregate-is-same-16 : tie.Need-slice-aggregate-is-same-16
+slice-aggregate-is-same-16 c = search needs
+
+is-same-requires-16 : tie.Need-is-same-requires-16
+is-same-requires-16 c κs = search needs
+
+slice-aggregate-is-same-17 : tie.Need-slice-aggregate-is-same-17
+slice-aggregate-is-same-17 c = search needs
+
+is-same-requires-17 : tie.Need-is-same-requires-17
+is-same-requires-17 c κs = search needs
+
 returns : tie.Need-returns
 returns c = simp (c .before .before .match .keys1, c .is-same .ensures)
 
@@ -137,13 +149,19 @@ returns-14 : tie.Need-returns-14
 returns-14 c = simp (c .before .before .match .keys14, c .is-same14 .ensures)
 
 returns-15 : tie.Need-returns-15
-returns-15 c =
+returns-15 c = simp (c .before .before .match .keys15, c .is-same15 .ensures)
+
+returns-16 : tie.Need-returns-16
+returns-16 c = simp (c .before .before .match .keys16, c .is-same16 .ensures)
+
+returns-17 : tie.Need-returns-17
+returns-17 c =
     let r = c .before .before .match .rest in
     let k = c .before .before .before .before .args .k in
-    let last : 14 ≤ k =
-    above 13 (above 12 (above 11 (above 10 (above 9 (above 8 (above 7 (above 6 (above 5 (above 4 (above 3 (above 2 (above 1 (above 0 (search needs) (r .0 .0 .0 .0 .0 .0 .0 .0 .0 .0 .0 .0 .0 .1)) (r .0 .0 .0 .0 .0 .0 .0 .0 .0 .0 .0 .0 .1)) (r .0 .0 .0 .0 .0 .0 .0 .0 .0 .0 .0 .1)) (r .0 .0 .0 .0 .0 .0 .0 .0 .0 .0 .1)) (r .0 .0 .0 .0 .0 .0 .0 .0 .0 .1)) (r .0 .0 .0 .0 .0 .0 .0 .0 .1)) (r .0 .0 .0 .0 .0 .0 .0 .1)) (r .0 .0 .0 .0 .0 .0 .1)) (r .0 .0 .0 .0 .0 .1)) (r .0 .0 .0 .0 .1)) (r .0 .0 .0 .1)) (r .0 .0 .1)) (r .0 .1)) (r .1)
+    let last : 16 ≤ k =
+    above 15 (above 14 (above 13 (above 12 (above 11 (above 10 (above 9 (above 8 (above 7 (above 6 (above 5 (above 4 (above 3 (above 2 (above 1 (above 0 (search needs) (r .0 .0 .0 .0 .0 .0 .0 .0 .0 .0 .0 .0 .0 .0 .0 .1)) (r .0 .0 .0 .0 .0 .0 .0 .0 .0 .0 .0 .0 .0 .0 .1)) (r .0 .0 .0 .0 .0 .0 .0 .0 .0 .0 .0 .0 .0 .1)) (r .0 .0 .0 .0 .0 .0 .0 .0 .0 .0 .0 .0 .1)) (r .0 .0 .0 .0 .0 .0 .0 .0 .0 .0 .0 .1)) (r .0 .0 .0 .0 .0 .0 .0 .0 .0 .0 .1)) (r .0 .0 .0 .0 .0 .0 .0 .0 .0 .1)) (r .0 .0 .0 .0 .0 .0 .0 .0 .1)) (r .0 .0 .0 .0 .0 .0 .0 .1)) (r .0 .0 .0 .0 .0 .0 .1)) (r .0 .0 .0 .0 .0 .1)) (r .0 .0 .0 .0 .1)) (r .0 .0 .0 .1)) (r .0 .0 .1)) (r .0 .1)) (r .1)
     in
-    rw (only-last last (c .before .before .before .before .pre)) (c .is-same15 .ensures)
+    rw (only-last last (c .before .before .before .before .pre)) (c .is-same17 .ensures)
 
 pub is-name-spec : {M : Type 1} → statement M
 is-name-spec =
@@ -179,6 +197,10 @@ is-name-spec =
     is-same-requires-14
     slice-aggregate-is-same-15
     is-same-requires-15
+    slice-aggregate-is-same-16
+    is-same-requires-16
+    slice-aggregate-is-same-17
+    is-same-requires-17
     returns
     returns-2
     returns-3
@@ -193,4 +215,6 @@ is-name-spec =
     returns-12
     returns-13
     returns-14
-    returns-15)
+    returns-15
+    returns-16
+    returns-17)
