@@ -1,4 +1,4 @@
-// How many nodes are Asked. A player counts them once, and then keeps the number by what each action does to its own node: no action looks at all of them.
+// How many nodes are Asked. A player counts them once for a block, and then keeps the number by the kinds of the actions: none looks at all nodes.
 ghost use mathlib.Core.Path.{_≡_};
 ghost use Prim.Native.Nat.{_-_, _≤_};
 ghost use Rattle.charts.specs.Modes.{isAsked};

@@ -106,7 +106,7 @@ fn waits_for_asked(m: Move) -> bool
     }
 }
 
-// The plan of a record about node i, whose cell is c; `asked` says whether some node is Asked. An accepted record is carried out on what passes 12.
+// The plan of a record about node i, whose cell is c; `asked` says whether some node is Asked. An accepted one is carried out on what passes 12.
 pub(crate) fn decide(
     table: &[u16; 350],
     n: u8,

@@ -204,8 +204,8 @@ pub fn aim(n: u8, phase: Phase, pending: &[bool; 63], a: Action) -> Aimed
     }
 }
 
-// What `advance` makes of that node, whose cell is c, where `asked` says whether some node is Asked, by a table of the reception chart. (proofs/InPlace.antt: carrying the plan out on the arrays, with the chart's own
-// table, is `advance`.) A player takes the table once, and lends it with each action.
+// What `advance` makes of that node, whose cell is c, by a table of the reception chart; `asked` says whether some node is Asked. (proofs/InPlace.antt:
+// carrying the plan out on the arrays, with the chart's own table, is `advance`.) A player takes the table once, and lends it with each action.
 pub fn plan(
     table: &[u16; 350],
     n: u8,
