@@ -2,7 +2,7 @@
 use mathlib.Core.Path.{_≡_, refl, sym, ap, subst, _∙_}
 use mathlib.Core.Bool.{Bool, true, false, cond, _&&_}
 use mathlib.Core.List.{List}
-use Prim.Native.Nat.{ℕ, zero, suc, _+_, _-_, _<_, _≤_}
+use Prim.Native.Nat.{ℕ, zero, suc, _+_, _-_, _≤_}
 use native.Mathlib.Omega.{arith}
 use lib.Dec.{eqb, ltb}
 use lib.ListN.{getD, length, List·getD-eq-default}
@@ -22,16 +22,17 @@ use Rattle.charts.specs.Valid.{isSize, phaseFits}
 use Rattle.charts.specs.Step.{Result, carryOut, about, outcomeOf, someAsked, mayAct, play, stepWith, isAccepted}
 use Rattle.charts.specs.Demand.{one}
 use Rattle.charts.specs.View.{view, seen, freshNode}
-use Rattle.charts.proofs.Tools.{never, clash, and-true, pick-by, by-test}
+use Rattle.charts.proofs.Tools.{never, clash, pick-by, by-test}
 use Rattle.charts.proofs.Ways.{Effect, effect}
-use Rattle.charts.proofs.Steps.{Known, Decodes, turned, taken, decodes, target-lt}
+use Rattle.charts.proofs.Steps.{Known, Decodes, turned, taken, decodes}
 use Rattle.charts.proofs.Askers.{asking}
 use Rattle.charts.proofs.Asking.{asks-kind, decides-kind}
 use Rattle.charts.proofs.Sums.{undecided-upd, count-le, count-some}
 use Rattle.charts.proofs.Progress.{remarked-undecided}
 use Rattle.bus.specs.Advance.{glance, advanceOf}
 use Rattle.bus.specs.Asking.{places, askersIn, more, askedAfter}
-use Rattle.bus.proofs.ReadLaws.{size-below}
+use Rattle.bus.specs.Plans.{Fits}
+use Rattle.bus.proofs.ReadLaws.{ready-read}
 
 -- none is Asked that has no place in the arrays
 count-beyond : (f : ℕ → Bool) (m n : ℕ) → m ≤ n → ((k : ℕ) → m ≤ k → f k ≡ false) → count f m ≡ count f n
@@ -81,21 +82,18 @@ module _ (s : State) (a : Action) where
     abbrev i : ℕ
     i = about s (moveOf a)
 
-    here : i < s .n
-    here =
-        let y = and-true (isSize (s .n)) _ size in
-        let two : 1 < s .n = ltb-true 1 (s .n) (and-true (ltb 1 (s .n)) _ (y .0) .0) in
-        target-lt (s .n) (s .phase) (pendings (s .cell)) (omega arith) (y .1) (moveOf a) known
+    ready : Fits (s .n) (s .phase) i
+    ready = ready-read (s .n) (s .phase) (pendings (s .cell)) a (Accepted (moveOf a)) size (taken known)
 
     out : mayAct s (moveOf a) ≡ true → (o : Outcome) → Effect s (moveOf a) i o → Kept (carryOut s i o)
     out f closed x e = never e
     out f (does r p c y) x e =
-        let z = asking s (moveOf a) i r p c y here f x in
+        let z = asking s (moveOf a) i r p c y (ready .node) f x in
         let was : one (isAsked (s .cell i .mode)) ≡ one (eqb (a .kind) 12) = ap one (z .was ∙ decides-kind a kind) in
         let now : one (isAsked (c .mode)) ≡ one (eqb (a .kind) 11) = ap one (z .now ∙ asks-kind a kind) in
         let same = remarked-undecided y (moved s p i c) in
-        let sum = undecided-upd (s .cell) i c (s .n) here in
-        by-kind (a .kind) (askersOf s) _ (omega arith) (omega (arith, count-le (askers (moved s p i c .cell)) (s .n), size-below (s .n) (s .phase) size))
+        let sum = undecided-upd (s .cell) i c (s .n) (ready .node) in
+        by-kind (a .kind) (askersOf s) _ (omega arith) (omega (arith, count-le (askers (moved s p i c .cell)) (s .n), ready .size))
 
     may : (b : Bool) → mayAct s (moveOf a) ≡ b → Kept (carryOut s i (when b (outcomeOf s (moveOf a))))
     may true f e = out f (outcomeOf s (moveOf a)) (effect s (moveOf a)) e

@@ -29,7 +29,7 @@ pub size-below : (n : ℕ) (p : Phase) → (isSize n && phaseFits n p) ≡ true 
 size-below n p e = let h : n < 64 = ltb-true n 64 (and-true (ltb 1 n) _ (and-true (isSize n) _ e .0) .1) in omega arith
 
 module _ (n : ℕ) (p : Phase) (ps : ℕ → Bool) (a : Action) where
-  ready-read : (d : Decoded) → (isSize n && phaseFits n p) ≡ true → Decodes n a d → Ready n p ps d
+  pub ready-read : (d : Decoded) → (isSize n && phaseFits n p) ≡ true → Decodes n a d → Ready n p ps d
   ready-read (Refused k) e q = tt
   ready-read (Accepted m) e (taken k) =
       let y = and-true (isSize n) _ e in

@@ -85,6 +85,12 @@ unasked s u = none-of (askers (s .cell)) (s .n) (not-true _ u)
 granted-unasked : (m : Mode) → isAsked m ≡ false → isAsked (granted m) ≡ false
 granted-unasked m e = pick (λ x. isAsked x ≡ false) (isTold m) _ _ refl (pick (λ x. isAsked x ≡ false) (isOwed m) _ _ refl e)
 
+-- a node's mode before and after an action, which is about it
+pub record Asking (m : Move) (before after : Cell) : Type 0 where
+  pub was : isAsked (before .mode) ≡ isDecide m
+  pub now : isAsked (after .mode) ≡ isAsk m
+  pub full : isAsk m ≡ true → isEmpty (after .buffer) ≡ false
+
 module _ (s : State) where
   contends-not : {i : ℕ} {m : Move} → Contends s i m → isAsk m ≡ false
   contends-not (at-once e) = refl
@@ -93,12 +99,6 @@ module _ (s : State) where
   contends-was : {i : ℕ} {m : Move} → Contends s i m → isAsked (s .cell i .mode) ≡ isDecide m
   contends-was (at-once e) = ap (λ p. eqb p P.asked) e
   contends-was (asked e) = ap (λ p. eqb p P.asked) e
-
-  -- a node's mode before and after an action, which is about it
-  pub record Asking (m : Move) (before after : Cell) : Type 0 where
-    pub was : isAsked (before .mode) ≡ isDecide m
-    pub now : isAsked (after .mode) ≡ isAsk m
-    pub full : isAsk m ≡ true → isEmpty (after .buffer) ≡ false
 
   pub asking : (m : Move) (i : ℕ) (r : Report) (p : Phase) (c : Cell) (x : Marking) → i < s .n → mayAct s m ≡ true → Effect s m i (does r p c x) → Asking m (s .cell i) c
   asking m i r p c x l u (waits e f) = let z = ap (λ p. eqb p P.asked) e in record { was = z; now = z; full = never }

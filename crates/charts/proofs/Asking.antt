@@ -1,7 +1,7 @@
 -- Asking and deciding as two moves (specs/Asking.antt): Asked stays on every signal, kinds 4 to 10 are refused while a node is Asked, and kind 11 with at once kind 12 of the same node
 -- does what kind 2 does. And a loser of kind 2 is left as it was.
 use mathlib.Core.Path.{_≡_, refl, sym, ap, subst, _∙_, fun-ext}
-use mathlib.Core.Bool.{Bool, true, false, cond, not, Bool·beq}
+use mathlib.Core.Bool.{Bool, true, false, cond, Bool·beq}
 use Prim.Native.Nat.{ℕ, _<_}
 use lib.Dec.{eqb, ltb}
 use borrow.Author.Tests.{eqb-true, ltb-true, lt-ltb}
@@ -21,7 +21,7 @@ use Rattle.charts.specs.Modes.{isRest}
 use Rattle.charts.specs.Reception.{hears}
 use Rattle.charts.specs.State.{State, setMode, isEmpty, moved, remarked}
 use Rattle.charts.specs.Actions.{Outcome, closed, does, when, loses, decided, arbitrate, asks, ask, decide, waitsForAsked, outcome}
-use Rattle.charts.specs.Records.{isKind, clean, moveOf, read}
+use Rattle.charts.specs.Records.{isKind, moveOf, read}
 use Rattle.charts.specs.Valid.{valid}
 use Rattle.charts.specs.Demand.{isOpen}
 use Rattle.charts.specs.Asking.{ofNode, AskedStays, AskThenDecide}
@@ -30,7 +30,7 @@ use Rattle.charts.proofs.Tools.{never, clash, implies, implied, and-tru
 use Rattle.charts.proofs.Places.{mode-is}
 use Rattle.charts.proofs.Steps.{Stepped, refused, acts, stepped}
 use Rattle.charts.proofs.Validity.{valid-is, valid-kept}
-use Rattle.charts.proofs.Open.{read-decide}
+use Rattle.charts.proofs.Open.{read-named}
 use Rattle.charts.proofs.Askers.{isAsk, isDecide}
 
 -- "Asked stays on every signal"
@@ -63,6 +63,7 @@ module _ (a : Action) where
       let z = and-true (ltb 0 (a .kind)) _ h in
       beq-eq _ _ (implied (ltb 0 (a .kind)) _ (table-at (λ k. implies (ltb 0 k) (Bool·beq (isDecide (moveOf (of-kind k))) (eqb k 12))) 13 tt (a .kind) (ltb-true _ 13 (z .1))) (z .0))
 
+-- by the kinds of the records
 bars : (s : State) → someAsked s ≡ true → (a : Action) → 3 < a .kind → a .kind < 11 → isOpen s a ≡ false
 bars s e a h l = go (stepped s a)
   where
@@ -78,15 +79,6 @@ plays s a m v r = ap (λ b. stepWith s (cond b (read (s .n) a) (Refused N.not-va
 module _ (s : State) (i : ℕ) where
   abbrev c : Cell
   c = s .cell i
-
-  -- the records of kinds 2 and 11 are read
-  read-arbitrate : i < s .n → read (s .n) (ofNode 2 i) ≡ Accepted (Arbitrate i)
-  unfolding read clean moveOf
-  read-arbitrate l = ap (λ b. cond (not b) (Refused N.wrong-node) (Accepted (Arbitrate i))) (lt-ltb i (s .n) l)
-
-  read-ask : i < s .n → read (s .n) (ofNode 11 i) ≡ Accepted (Ask i)
-  unfolding read clean moveOf
-  read-ask l = ap (λ b. cond (not b) (Refused N.wrong-node) (Accepted (Ask i))) (lt-ltb i (s .n) l)
 
   -- where kind 2 is open: the state is valid, node i is below n, in Rest, with a full buffer
   known : isAccepted (step s (ofNode 2 i)) ≡ true → (valid s ≡ true) × (i < s .n)
@@ -139,15 +131,16 @@ module _ (s : State) (i : ℕ) where
 
   two-moves : isOpen s (ofNode 2 i) ≡ true →
       (isOpen s (ofNode 11 i) ≡ true) × (step (step s (ofNode 11 i) .state) (ofNode 12 i) ≡ step s (ofNode 2 i))
+  unfolding moveOf
   two-moves e =
       let k = known e in
-      let two : step s (ofNode 2 i) ≡ play s (Arbitrate i) = plays s (ofNode 2 i) (Arbitrate i) (k .0) (read-arbitrate (k .1)) in
+      let two : step s (ofNode 2 i) ≡ play s (Arbitrate i) = plays s (ofNode 2 i) (Arbitrate i) (k .0) (read-named (s .n) 2 i refl refl refl (k .1)) in
       let o : isAccepted (play s (Arbitrate i)) ≡ true = subst (λ r. isAccepted r ≡ true) two e in
       let f = contends o in
-      let first : step s (ofNode 11 i) ≡ record { number = N.accepted; report = Silent; state = asked } = plays s (ofNode 11 i) (Ask i) (k .0) (read-ask (k .1)) ∙ asks-open (f .0) (f .1) in
+      let first : step s (ofNode 11 i) ≡ record { number = N.accepted; report = Silent; state = asked } = plays s (ofNode 11 i) (Ask i) (k .0) (read-named (s .n) 11 i refl refl refl (k .1)) ∙ asks-open (f .0) (f .1) in
       let v : valid asked ≡ true = subst (λ (r : Result). valid (r .state) ≡ true) first (valid-kept s (ofNode 11 i) (k .0)) in (
         ap isAccepted first,
-        ap (λ (r : Result). step (r .state) (ofNode 12 i)) first ∙ plays asked (ofNode 12 i) (Decide i) v (read-decide s (k .0) i (k .1)) ∙ decides o ∙ sym two,
+        ap (λ (r : Result). step (r .state) (ofNode 12 i)) first ∙ plays asked (ofNode 12 i) (Decide i) v (read-named (s .n) 12 i refl refl refl (k .1)) ∙ decides o ∙ sym two,
       )
 
 pub ask-then-decide : (s : State) → AskThenDecide s

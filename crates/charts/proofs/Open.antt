@@ -36,10 +36,11 @@ use Rattle.charts.specs.State.{State, pendings, holders, askers, some, o
 use Rattle.charts.specs.Actions as Actions
 use Rattle.charts.specs.Actions.{Outcome, does, when, mayAnswer}
 use Rattle.charts.specs.Signals.{noHead}
-use Rattle.charts.specs.Records.{clean, moveOf, read}
+use Rattle.charts.specs.Records.{isKind, namesNode, namesAddress, namesAnswer, namesPacket, clean, moveOf, read}
 use Rattle.charts.specs.Valid.{valid}
 use Rattle.charts.specs.Step.{someAsked, carryOut, about, comesTo, play, look, stepWith, step, isAccepted}
 use Rattle.charts.specs.Demand.{forward, isForward}
+use Rattle.charts.specs.Asking.{ofNode}
 use Rattle.charts.proofs.Tools.{never, clash, implies, implied, both, and-no, pick, none-of, lowest-of, lowest-lt, others-none, table-at, mem, mem-one, neither, or-yes, by-test}
 use Rattle.charts.proofs.Places.{law-mode, active, stepOf, mode-is}
 use Rattle.charts.proofs.Stages.{turnAt, clearSteps, acting, BusyAt, talks, clears, Stage}
@@ -68,9 +69,14 @@ clear-answers m h a z = go (eqb (placeOf m) P.sending) refl
     go true e = clash _ h (ap (λ m. mem (stepOf m) clearSteps) (mode-is m P.sending (eqb-true _ _ e)) ∙ odd-clear (stepIn m))
     go false e = rest e (held (eqb (placeOf m) P.holding) refl)
 
--- records of the actions that are found open
-abbrev bare : ℕ → ℕ → ℕ → Action
-bare k i a = record { kind = k; node = i; address = a; ack = 0; hold = 0; label = 0; byte6 = 0; byte7 = 0; header = 0; datum = 0 }
+-- a record that names its node alone, and one below n, is read
+pub read-named : (n k i : ℕ) → isKind k ≡ true → namesNode k ≡ true → namesAddress k ≡ false → i < n → read n (ofNode k i) ≡ Accepted (moveOf (ofNode k i))
+unfolding read clean
+read-named n k i e f g l = rw (e, f, g, or-yes (namesAnswer k), or-yes (namesPacket k), lt-ltb i n l)
+
+-- a request to all nodes
+abbrev toAll : ℕ → Action
+toAll i = record { kind = 1; node = i; address = 63; ack = 0; hold = 0; label = 0; byte6 = 0; byte7 = 0; header = 0; datum = 0 }
 
 abbrev nothing-to : ℕ → Packet
 nothing-to a = record { to = a; head = noHead; datum = 0 }
@@ -87,19 +93,7 @@ module _ (s : State) (v : valid s ≡ true) where
       go : (o : Outcome) → Opens o → isAccepted (carryOut s (about s m) o) && forward s m ≡ true
       go o opens = f
 
-  read-clock : (i : ℕ) → i < s .n → read (s .n) (bare 4 i 0) ≡ Accepted (Clock i)
-  unfolding read clean moveOf
-  read-clock i l = ap (λ b. cond (not b) (Refused N.wrong-node) (Accepted (Clock i))) (lt-ltb i (s .n) l)
-
-  pub read-decide : (i : ℕ) → i < s .n → read (s .n) (bare 12 i 0) ≡ Accepted (Decide i)
-  unfolding read clean moveOf
-  read-decide i l = ap (λ b. cond (not b) (Refused N.wrong-node) (Accepted (Decide i))) (lt-ltb i (s .n) l)
-
-  read-respond : (i : ℕ) → i < s .n → read (s .n) (bare 3 i 0) ≡ Accepted (Respond i 0 false)
-  unfolding read clean moveOf
-  read-respond i l = ap (λ b. cond (not b) (Refused N.wrong-node) (Accepted (Respond i 0 false))) (lt-ltb i (s .n) l)
-
-  read-request : (i : ℕ) → i < s .n → read (s .n) (bare 1 i 63) ≡ Accepted (Request i (nothing-to 63))
+  read-request : (i : ℕ) → i < s .n → read (s .n) (toAll i) ≡ Accepted (Request i (nothing-to 63))
   unfolding read clean moveOf
   read-request i l =
       ap (λ b. cond (not b) (Refused N.wrong-node) (cond (not (ltb 63 (s .n) || true)) (Refused N.wrong-address) (Accepted (Request i (nothing-to 63))))) (lt-ltb i (s .n) l)
@@ -108,7 +102,7 @@ module _ (s : State) (v : valid s ≡ true) where
   -- a node that is Asked with a full buffer is decided
   decide-opens : (i : ℕ) → i < s .n → isAsked (s .cell i .mode) ≡ true → isEmpty (s .cell i .buffer) ≡ false → Found
   unfolding moveOf Actions.outcome Actions.decide
-  decide-opens i l e f = is-open (bare 12 i 0) (Decide i) refl (read-decide i l) (open-when (isAsked (s .cell i .mode)) _ e (go (s .cell i .buffer) f)) refl
+  decide-opens i l e f = is-open (ofNode 12 i) (Decide i) refl (read-named (s .n) 12 i refl refl refl l) (open-when (isAsked (s .cell i .mode)) _ e (go (s .cell i .buffer) f)) refl
     where
       go : (b : Buffer) → isEmpty b ≡ false → Opens (Actions.decided (s .phase) i (s .cell i) b)
       go Empty f = absurd (true≢false f)
@@ -156,9 +150,9 @@ module _ (s : State) (v : valid s ≡ true) where
     holder-opens u b e = go (isHolding (s .cell i .mode)) (isAnswering (s .cell i .mode)) refl refl
       where
         go : (x y : Bool) → isHolding (s .cell i .mode) ≡ x → isAnswering (s .cell i .mode) ≡ y → Found
-        go true y p q = is-open (bare 1 i 63) (Request i (nothing-to 63)) refl (read-request i l) (pick Opens (isRest (s .cell i .mode) && isEmpty (s .cell i .buffer)) _ _ opens (open-when (isHolding (s .cell i .mode)) _ p opens)) p
-        go false true p q = is-open (bare 3 i 0) (Respond i 0 false) refl (read-respond i l) (open-when (isAnswering (s .cell i .mode) && mayAnswer (s .concatenated) false) _ (both _ _ q (ap not (and-no (s .concatenated)))) opens) refl
-        go false false p q = is-open (bare 4 i 0) (Clock i) refl (read-clock i l) (open-now u _ (open-when (isBusy (s .phase)) _ (ap isBusy b) (clock-opens t))) (ap not (neither _ _ q p))
+        go true y p q = is-open (toAll i) (Request i (nothing-to 63)) refl (read-request i l) (pick Opens (isRest (s .cell i .mode) && isEmpty (s .cell i .buffer)) _ _ opens (open-when (isHolding (s .cell i .mode)) _ p opens)) p
+        go false true p q = is-open (ofNode 3 i) (Respond i 0 false) refl (read-named (s .n) 3 i refl refl refl l) (open-when (isAnswering (s .cell i .mode) && mayAnswer (s .concatenated) false) _ (both _ _ q (ap not (and-no (s .concatenated)))) opens) refl
+        go false false p q = is-open (ofNode 4 i) (Clock i) refl (read-named (s .n) 4 i refl refl refl l) (open-now u _ (open-when (isBusy (s .phase)) _ (ap isBusy b) (clock-opens t))) (ap not (neither _ _ q p))
           where
             t : mem (placeOf (s .cell i .mode)) (P.sending ∷ P.acking ∷ P.spurious ∷ []) ≡ true
             t = implied _ _ (implied _ _ (implied (active (placeOf (s .cell i .mode))) _ (law-mode (λ p. implies (active p) (implies (not (eqb p P.holding)) (implies (not (eqb p P.answering)) (mem p (P.sending ∷ P.acking ∷ P.spurious ∷ []))))) tt (s .cell i .mode)) e) (ap not p)) (ap not q)
@@ -214,6 +208,6 @@ module _ (s : State) (v : valid s ≡ true) where
         go : someAsked s ≡ false → (p : Phase) → s .phase ≡ p → Stage (s .concatenated) p (s .n) (s .cell) → isIdle p ≡ false → Found
         go u Idle q a e = absurd (true≢false e)
         go u Busy q a e = busy-opens u q a
-        go u (Delivering w g j) q a e = is-open (bare 5 0 0) (Carry Pass) refl refl (open-now u _ (subst (λ p. Opens (Actions.carry hears (s .n) p (s .cell (Actions.nextOf p)) (pendings (s .cell)) Pass)) (sym q) opens)) refl
-        go u Granting q a e = is-open (bare 8 0 0) Grant refl refl (open-now u _ (open-when (isGranting (s .phase)) _ (ap isGranting q) (pick Opens (some (pendings (s .cell)) (s .n)) _ _ opens opens))) refl
-        go u (Gapping j) q a e = is-open (bare 9 0 0) GapNext refl refl (open-now u _ (subst (λ p. Opens (Actions.gap hears (s .n) p (s .cell (Actions.nextOf p)))) (sym q) (pick Opens (ltb (suc j) (s .n)) _ _ opens opens))) refl
+        go u (Delivering w g j) q a e = is-open (ofNode 5 0) (Carry Pass) refl refl (open-now u _ (subst (λ p. Opens (Actions.carry hears (s .n) p (s .cell (Actions.nextOf p)) (pendings (s .cell)) Pass)) (sym q) opens)) refl
+        go u Granting q a e = is-open (ofNode 8 0) Grant refl refl (open-now u _ (open-when (isGranting (s .phase)) _ (ap isGranting q) (pick Opens (some (pendings (s .cell)) (s .n)) _ _ opens opens))) refl
+        go u (Gapping j) q a e = is-open (ofNode 9 0) GapNext refl refl (open-now u _ (subst (λ p. Opens (Actions.gap hears (s .n) p (s .cell (Actions.nextOf p)))) (sym q) (pick Opens (ltb (suc j) (s .n)) _ _ opens opens))) refl

@@ -208,10 +208,6 @@ ended me label m = not-true _ (law (λ y p c. implies (eqb c S.end) (not (half (
 pub hears-unasked : (me label : ℕ) (m : Mode) (s : Signal) → isAsked m ≡ false → isAsked (hears me label m s .mode) ≡ false
 hears-unasked me label m s e = not-true _ (rw e at (law (λ y p c. implies (not (eqb p P.asked)) (not (eqb (y .place) P.asked))) tt me label m s))
 
--- a Gap makes nobody owe, and frees nobody who does; a node that neither owes nor holds rests after it
+-- a Gap makes nobody owe, and frees nobody who does
 pub gap-owes : (me label : ℕ) (m : Mode) → owing (placeOf (hears me label m Gap .mode)) ≡ owing (placeOf m)
 gap-owes me label m = beq-eq _ _ (law (λ y p c. implies (eqb c S.gap) (Bool·beq (owing (y .place)) (owing p))) tt me label m Gap)
-
-pub gap-rests : (me label : ℕ) (m : Mode) → owing (placeOf m) ≡ false → active (placeOf m) ≡ false → mem (placeOf (hears me label m Gap .mode)) resting ≡ true
-gap-rests me label m o a =
-    rw (o, a) at (law (λ y p c. implies (eqb c S.gap) (implies (not (owing p)) (implies (not (active p)) (mem (y .place) resting)))) tt me label m Gap)
