@@ -32,7 +32,7 @@ use Rattle.charts.specs.Signals as S
 use Rattle.charts.specs.Signals.{everybody, classOf, kindOf, ackOf, isEnd}
 use Rattle.charts.specs.Places.{ackIn}
 use Rattle.charts.specs.Reception.{answer, hears}
-use Rattle.charts.specs.State.{State, setMode, upd, every, some, others, pendings, holders, moved, remarked, fresh}
+use Rattle.charts.specs.State.{State, setMode, upd, every, allBelow, some, others, pendings, holders, moved, remarked, fresh}
 use Rattle.charts.specs.Actions.{does, firstOther, nextOther, onward, labelOf, receives, hearing, granted, putsOut, markingBy, answers, markingAtIdle}
 use Rattle.charts.specs.Actions as Actions
 use Rattle.charts.specs.Step.{accepted}
@@ -44,7 +44,7 @@ use Rattle.charts.specs.Words.{wordOf}
 use Rattle.charts.proofs.Places.{mode-is, law, law-mode, active, stepOf, ackingAt, resting}
 use Rattle.charts.proofs.Payload.{OthersIn, sends, Carry, Tells, told-none, told-good, told-dcrc, told-broad, signal-is, answers-to, past, inRow, in-row, row-in, turn-in, holding-past, carries}
 use Rattle.charts.proofs.Stages.{rowAt, turnAt, quiet, grantSteps, clearSteps, Delivery, BusyAt, talks, clears, Stage}
-use Rattle.charts.proofs.Reach.{Reach, answerers, allBelow, mem-below, low-places, step-place, is-talker, no-turn}
+use Rattle.charts.proofs.Reach.{Reach, answerers, mem-below, low-places, step-place, is-talker, no-turn}
 use Rattle.charts.proofs.Ways.{afterGap, passed-by, Puts, start, dhead, dest, header, datum, end-all, end-one, filler, ack-start, ack-body, ack-hold, ack-end, holds-on, Arrives, passes, redirects, bad-header, bad-data, bad-ack, Effect, waits, replies, wins, loses, gives, puts, frees, arrives, is-lost, grants, grants-none, gaps, settles, resets, at-once, asked, claims}
 use Rattle.charts.proofs.Books.{Kept, Runs, ours, By, silent, acks, misses, dropped, good, dcrc, broad, by, conf, leaves, remains, holdOf, resting-ours}
 

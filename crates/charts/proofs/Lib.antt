@@ -12,6 +12,7 @@ pub mod Replies
 pub mod Open
 pub mod Books
 pub mod Drops
+pub mod Sequences
 pub mod Tally
 pub mod Stretches
 pub mod Validity

@@ -27,7 +27,7 @@ use Rattle.charts.specs.Signals as S
 use Rattle.charts.specs.Signals.{kindOf, isEnd}
 use Rattle.charts.specs.Places.{stepIn, holdIn}
 use Rattle.charts.specs.Reception.{hears}
-use Rattle.charts.specs.State.{State, pendings, holders, upd, some, others, lowest, every, moved, concatenatedAfter, remarked, isIdle}
+use Rattle.charts.specs.State.{State, pendings, holders, upd, some, others, total, lowest, every, moved, concatenatedAfter, remarked, isIdle}
 use Rattle.charts.specs.Actions.{receives, does, firstOther, nextOther, putsOut, freed, afterFree, onward, granted, afterGrant, mayAnswer, markingBy}
 use Rattle.charts.specs.Demand.{forward, one}
 use Rattle.charts.proofs.Tools.{never, clash, implies, implied, not-implied, and-true, neither, or-true, pick-by, at-upd, at-upd≢, upd-same, upd-other, upd-map, none-of, some-at, some-agree, others-off, lowest-of, lowest-lt, table-at, mem, everyIn, mem-sub, not-mem-sub, mem-two, pick, by-test, both, beq-eq}
@@ -35,7 +35,7 @@ use Rattle.charts.proofs.Places.{law, law-mode, owing, active, owes, ac
 use Rattle.charts.proofs.Ways.{afterGap, passed-by, Puts, start, dhead, dest, header, datum, end-all, end-one, filler, ack-start, ack-body, ack-hold, ack-end, holds-on, Arrives, passes, redirects, bad-header, bad-data, bad-ack, Effect, waits, replies, wins, loses, gives, puts, frees, arrives, is-lost, grants, grants-none, gaps, settles, resets, at-once, asked, contends-rests, claims}
 use Rattle.charts.proofs.Steps.{remarked-n}
 use Rattle.charts.proofs.Askers.{unasked, not-ask, asking}
-use Rattle.charts.proofs.Stages.{rowAt, roundOf, fillerOf, Turn, turnAt, packetRead, quiet, waiting, ended, answering, requesting, reading, grantSteps, clearSteps, acting, Sole, Delivery, Talk, Clear, BusyAt, talks, clears, GrantingAt, GappingAt, IdleAt, Stage, weigh, weights, total, left, bonus, rowRank, turnRank, clearRank, busyRank, rank, Lands, heard-lands, lost-lands, Row, undecided}
+use Rattle.charts.proofs.Stages.{rowAt, roundOf, fillerOf, Turn, turnAt, packetRead, quiet, waiting, ended, answering, requesting, reading, grantSteps, clearSteps, acting, Sole, Delivery, Talk, Clear, BusyAt, talks, clears, GrantingAt, GappingAt, IdleAt, Stage, weigh, weights, left, bonus, rowRank, turnRank, clearRank, busyRank, rank, Lands, heard-lands, lost-lands, Row, undecided}
 use Rattle.charts.proofs.Reach.{Marks, Reach, low-places, low-place, step-place, passive-steps, is-talker, turn-fact, no-turn, sole-quiet, Ready, toGo, is-passive}
 use Rattle.charts.proofs.Sums.{total-gap, total-agree, total-one, total-sole, weigh-le, weights-upd, next-apart, next-past, next-past-j, left-pos, left-lt, left-next, first-lt, first-apart, first-none, undecided-upd}
 use Rattle.charts.specs.Step.{mayAct}

@@ -14,7 +14,7 @@ use Rattle.charts.specs.declared.Cell.{Cell}
 use Rattle.charts.specs.Modes as P
 use Rattle.charts.specs.Modes.{placeOf, isAsked}
 use Rattle.charts.specs.Places.{stepIn, holdIn}
-use Rattle.charts.specs.State.{State, holders, others, every, fresh, isEmpty}
+use Rattle.charts.specs.State.{State, holders, others, every, allBelow, fresh, isEmpty}
 use Rattle.charts.proofs.Tools.{never, clash, implies, implied, and-true, pick-by, table-at, others-off, mem, everyIn, mem-sub}
 use Rattle.charts.proofs.Places.{law-mode, owing, active, stepAt, stepOf}
 use Rattle.charts.proofs.Stages.{Row, rowAt, Turn, turnAt, quiet, clearSteps, Delivery, Talk, Stage, rank, undecided}
@@ -50,10 +50,6 @@ place-of-step : (p k : ℕ) → stepAt p k < 30 → p ≡ stepAt p k
 place-of-step p k =
     pick-by (λ x. x < 30 → p ≡ x) (eqb p P.sending) _ _ (λ e l. absurd (omega arith)) λ e.
     pick-by (λ x. x < 30 → p ≡ x) (eqb p P.acking) _ _ (λ e l. absurd (omega arith)) (λ e l. refl)
-
-abbrev pub allBelow : List ℕ → ℕ → Bool
-allBelow [] b = true
-allBelow (x ∷ l) b = ltb x b && allBelow l b
 
 pub mem-below : (c : ℕ) (l : List ℕ) (b : ℕ) → allBelow l b ≡ true → mem c l ≡ true → c < b
 mem-below c [] b t h = never h

@@ -20,7 +20,7 @@ use Rattle.charts.specs.Signals as S
 use Rattle.charts.specs.Signals.{classOf, kindOf}
 use Rattle.charts.specs.Reception.{hears}
 use Rattle.charts.specs.Table.{entry}
-use Rattle.charts.specs.State.{pendings, some, count, every, askers}
+use Rattle.charts.specs.State.{pendings, some, count, total, every, askers}
 use Rattle.charts.proofs.Tools.{implies, implied, not-implied, and-true, both, pick, table-at, everyPair, mem, everyIn, mem-sub}
 use Rattle.charts.proofs.Places.{law, active, sendingAt, ackingAt, stepOf, resting}
 
@@ -250,10 +250,6 @@ weigh p = cond (mem p (P.owed ∷ P.told ∷ [])) 2 (cond (mem p (P.answering �
 
 abbrev pub weights : (ℕ → Cell) → ℕ → ℕ
 weights f k = weigh (placeOf (f k .mode))
-
-abbrev pub total : (ℕ → ℕ) → ℕ → ℕ
-total v zero = 0
-total v (suc k) = total v k + v k
 
 -- the receivers from j on that are not the sender w
 abbrev pub left : ℕ → ℕ → ℕ → ℕ

@@ -9,12 +9,12 @@ use borrow.Author.Tests.{eqb-true, eqb-false, ltb-true, ltb-false, lt-ltb, le-lt
 use Rattle.charts.specs.declared.Mode.{Mode}
 use Rattle.charts.specs.declared.Cell.{Cell}
 use Rattle.charts.specs.Modes.{placeOf, isAsked}
-use Rattle.charts.specs.State.{upd, some, askers, count}
+use Rattle.charts.specs.State.{upd, some, askers, count, total}
 use Rattle.charts.specs.Actions.{firstOther, nextOther}
 use Rattle.charts.proofs.Tools.{pick-by, by-test, upd-same, upd-other, pick}
 use Rattle.charts.specs.Demand.{one}
 use Rattle.charts.proofs.Places.{law-mode}
-use Rattle.charts.proofs.Stages.{weigh, weights, total, left, undecided}
+use Rattle.charts.proofs.Stages.{weigh, weights, left, undecided}
 
 pub total-le : (v : ℕ → ℕ) (n : ℕ) → ((k : ℕ) → v k ≤ 2) → total v n ≤ 2 * n
 total-le v zero h = omega arith

@@ -18,3 +18,4 @@ pub mod Demand
 pub mod Stretch
 pub mod Replies
 pub mod Asking
+pub mod Sequences

@@ -1,5 +1,6 @@
 -- The state that the charts speak of: the nodes' records and marks as a function from numbers to cells. (View.antt shows the code's record as such a state.)
 use mathlib.Core.Bool.{Bool, true, false, cond, _&&_, _||_, not}
+use mathlib.Core.List.{List, [], _∷_}
 use Prim.Native.Nat.{ℕ, zero, suc, _+_}
 use lib.Dec.{eqb, ltb}
 use Rattle.charts.specs.declared.Mode.{Mode}
@@ -76,10 +77,20 @@ abbrev pub count : (ℕ → Bool) → ℕ → ℕ
 count f zero = 0
 count f (suc n) = count f n + cond (f n) 1 0
 
+-- the sum of what f is at the n numbers below
+abbrev pub total : (ℕ → ℕ) → ℕ → ℕ
+total f zero = 0
+total f (suc n) = total f n + f n
+
 -- f holds at each of the n numbers below
 abbrev pub every : (ℕ → Bool) → ℕ → Bool
 every f zero = true
 every f (suc n) = f n && every f n
+
+-- each number of a list is below b
+abbrev pub allBelow : List ℕ → ℕ → Bool
+allBelow [] b = true
+allBelow (x ∷ l) b = ltb x b && allBelow l b
 
 -- the lowest of the n numbers below at which f holds, else d
 abbrev pub lowest : (ℕ → Bool) → ℕ → ℕ → ℕ
