@@ -1,4 +1,4 @@
--- The line of sums, sum by sum. Assumes nothing.
+-- A line of figures, figure by figure. Assumes nothing.
 use mathlib.Core.Path.{_≡_, ap, sym, _∙_}
 use mathlib.Core.List.{List, [], _∷_, _++_, append-assoc, append-nil}
 use Prim.Native.Nat.{ℕ, _+_, _<_}
@@ -7,7 +7,7 @@ use lib.ListN.{length, take, getD}
 use lib.Seq.{take-suc}
 use Rattle.transcript.specs.Lines.{line}
 use Rattle.transcript.specs.Text.{decimal}
-use Rattle.summing.specs.Summed.{figures}
+use Rattle.figures.specs.Figures.{figures}
 
 -- figures, each after a space
 abbrev pub spaced : List ℕ → List ℕ
@@ -20,9 +20,9 @@ spaced-snoc (y ∷ l) x =
     ap (λ (t : List ℕ). 32 ∷ t) (ap (λ (t : List ℕ). decimal y ++ t) (spaced-snoc l x) ∙ sym (append-assoc (decimal y) (spaced l) (32 ∷ decimal x)))
 
 -- one figure more, and the end of the line
-pub spaced-more : (sums : List ℕ) (k : ℕ) → k < length sums → (spaced (take k sums) ++ (32 ∷ [])) ++ decimal (getD sums k 0) ≡ spaced (take (k + 1) sums)
-spaced-more sums k h =
-    append-assoc (spaced (take k sums)) (32 ∷ []) (decimal (getD sums k 0)) ∙ sym (rw (add-one k, take-suc sums k 0 h) (spaced-snoc (take k sums) (getD sums k 0)))
+pub spaced-more : (l : List ℕ) (k : ℕ) → k < length l → (spaced (take k l) ++ (32 ∷ [])) ++ decimal (getD l k 0) ≡ spaced (take (k + 1) l)
+spaced-more l k h =
+    append-assoc (spaced (take k l)) (32 ∷ []) (decimal (getD l k 0)) ∙ sym (rw (add-one k, take-suc l k 0 h) (spaced-snoc (take k l) (getD l k 0)))
 
 pub line-spaced : (w l : List ℕ) → line (w ∷ figures l) ≡ (w ++ spaced l) ++ (10 ∷ [])
 line-spaced w [] = ap (λ (t : List ℕ). t ++ (10 ∷ [])) (sym (append-nil w))
