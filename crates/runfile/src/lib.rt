@@ -223,10 +223,10 @@ pub fn action_bytes(block: &[u8]) -> &[u8]
 }
 
 // The sums of a block's actions: the k-th is that of the first k, 0 past the count. What 11 refuses has none.
-pub fn action_sums(block: &[u8]) -> [u32; 31]
+pub fn action_sums(block: &[u8]) -> [u64; 31]
     ensures { λ r. ⌜ r ≡ sumsOf (now (block .entry)) ⌝ }
 {
-    let mut sums: [u32; 31] = [0u32; 31];
+    let mut sums: [u64; 31] = [0u64; 31];
     if !count_fits(block) {
         return sums;
     }
@@ -236,7 +236,7 @@ pub fn action_sums(block: &[u8]) -> [u32; 31]
     while k < count {
         let at = 14 + 16 * k;
         so_far += weighed(&block[at..at + 16], at as u32);
-        sums[k] = so_far % MODULUS;
+        sums[k] = (so_far % MODULUS) as u64;
         k += 1;
     }
     sums

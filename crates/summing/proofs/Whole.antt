@@ -24,13 +24,14 @@ use Rattle.runfile.proofs.Parts.{bytes-first, bytes-second}
 use Rattle.runfile.proofs.Pieces.{more-pieces, one-piece}
 use Rattle.runfile.proofs.Stages.{At}
 use Rattle.transcript.specs.Lines.{doneLine}
+use Rattle.figures.specs.Figures.{figuresLine}
 use Rattle.walk.specs.Walk.{walking, walkedFrom}
 use Rattle.walk.specs.Feeding.{fedText}
 use Rattle.walk.specs.Reading.{started}
 use Rattle.walk.proofs.Files.{later, there, block-text}
 use Rattle.walk.proofs.Nodes.{does, whole as walk-whole}
 use Rattle.walk.proofs.Whole.{any-state}
-use Rattle.summing.specs.Summed.{sumsLine, tracing, summed, tracesFrom, listSummed}
+use Rattle.summing.specs.Summed.{tracing, summed, tracesFrom, listSummed}
 use Rattle.summing.proofs.Turns.{tracing-n}
 
 -- the pieces of any file, fed one after the other, and then the file's end, give exactly the text of the file
@@ -73,7 +74,7 @@ blocks-summed {n} {i} bytes (next {l = l} {m} {s} {t} b full rest) h p at c =
     rw (more-pieces s t size)
     (block-text tracing n i l s (bytes-first s t bytes) b p at n c (walkedFrom tracing (pieces t))
     ∙ rw (same-n (isFirst p) n, silent n l c (walkedFrom tracing (pieces t) q) (taken-first n l m h), follow, more, take-at l m 31 full, drop-at l m 31 full, ← block-only n i l s (bytes-first s t bytes) b, all)
-    (sym (append-assoc (sumsLine i (take (length l) (sumsOf s))) (tracesFrom (blocksFor (length m)) (suc i) n m) (doneLine (c + length l + length m)))))
+    (sym (append-assoc (figuresLine i (take (length l) (sumsOf s))) (tracesFrom (blocksFor (length m)) (suc i) n m) (doneLine (c + length l + length m)))))
 
 -- of every file of a list of actions that the writer takes
 pub file-summed : (n : ℕ) (l : List Action) (bytes : List ℕ) → firstRefusal n l ≡ N.accepted → IsFile n l bytes → summed bytes ≡ listSummed n l

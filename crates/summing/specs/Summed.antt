@@ -11,28 +11,20 @@ use Rattle.record.specs.Looked.{numberOf}
 use Rattle.runfile.specs.File.{blocksFor}
 use Rattle.runfile.specs.Sums.{sumsOf}
 use Rattle.runfile.specs.Write.{blockOf}
-use Rattle.transcript.specs.Lines.{line, doneLine, refusedLine}
-use Rattle.transcript.specs.Text.{decimal}
+use Rattle.transcript.specs.Lines.{doneLine, refusedLine}
+use Rattle.figures.specs.Figures.{figuresLine}
 use Rattle.walk.specs.Walk.{Turn, Walker, walked}
 use Rattle.walk.specs.Feeding.{Part}
 use Rattle.summing.specs.declared.block.Looked.{Looked}
-
--- "for each block, its number and the sums of its actions, one line a block, single spaces"
-abbrev pub figures : List ℕ → List (List ℕ)
-figures [] = []
-figures (x ∷ l) = decimal x ∷ figures l
-
-unfoldable pub sumsLine : ℕ → List ℕ → List ℕ
-sumsLine number sums = line (decimal number ∷ figures sums)
 
 -- an action looked at by 2 to 6 (13 after 5), without a line; the state of the walk is block 0's n
 abbrev pub turn : Action → ℕ → Turn ℕ
 turn a n = record { number = numberOf (read n a); line = []; state = n }
 
--- a block's sums, as many as its count, before its actions; "ended by the player's `done` or `refused` line"
+-- "for each block, its number and the sums of its actions, one line a block, single spaces", as many as its count, before its actions; "ended by the player's `done` or `refused` line"
 abbrev pub tracing : Walker ℕ
 tracing = record {
-  heading = λ first number count n b. sumsLine number (take count (sumsOf b));
+  heading = λ first number count n b. figuresLine number (take count (sumsOf b));
   opening = λ n. n;
   nodes = λ n. n;
   turn = λ i a n. turn a n;
@@ -47,7 +39,7 @@ summed bytes = walked tracing bytes
 -- it is that of every file of the list (proofs/Whole.antt)
 abbrev pub tracesFrom : ℕ → ℕ → ℕ → List Action → List ℕ
 tracesFrom zero i n l = []
-tracesFrom (suc k) i n l = sumsLine i (take (length (take 31 l)) (sumsOf (blockOf i n (take 31 l)))) ++ tracesFrom k (suc i) n (drop 31 l)
+tracesFrom (suc k) i n l = figuresLine i (take (length (take 31 l)) (sumsOf (blockOf i n (take 31 l)))) ++ tracesFrom k (suc i) n (drop 31 l)
 
 abbrev pub listSummed : ℕ → List Action → List ℕ
 listSummed n l = tracesFrom (blocksFor (length l)) 0 n l ++ doneLine (length l)

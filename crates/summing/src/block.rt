@@ -1,41 +1,17 @@
-// One block: its line of sums, and its actions looked at.
+// One block: its actions looked at.
 ghost use mathlib.Core.Path.{_≡_};
 ghost use Prim.Native.Nat.{_≤_};
-ghost use lib.ListN.{length, take};
+ghost use lib.ListN.{length};
 ghost use Rattle.runfile.specs.Pieces.{actionsIn};
-ghost use Rattle.transcript.specs.Room.{Puts};
 ghost use Rattle.walk.specs.Feeding.{partOf};
 ghost use Rattle.walk.specs.Reading.{PutsPart};
-ghost use Rattle.summing.specs.Summed.{sumsLine, tracing, lookedPart};
+ghost use Rattle.summing.specs.Summed.{tracing, lookedPart};
 use walk::reading::Part;
 
 // The first action that is refused: its index and the number; 0 if there is none.
 pub(crate) struct Looked {
     pub index: u64,
     pub number: u8,
-}
-
-fn wide(x: u32) -> u64
-    ensures { λ r. ⌜ r ≡ x ⌝ }
-{
-    x as u64
-}
-
-// Puts a block's number and so many of its sums at the start of `out`.
-pub(crate) fn put_sums(out: &mut [u8; 2048], number: u32, sums: &[u32; 31], count: u8) -> usize
-    requires { ⌜ (count ≤ 31) × (length (now sums) ≡ 31) ⌝ }
-    ensures { λ r. ⌜ r ≤ 1024 ⌝ }
-    ensures { λ r. ⌜ Puts (now (out .entry)) 0 (sumsLine number (take count (now (sums .entry)))) r (now (out .exit)) ⌝ }
-{
-    let last = count as usize;
-    let mut end = transcript::put_u64(out, 0, number as u64);
-    let mut k: usize = 0;
-    while k < last {
-        let at = transcript::put_word(out, end, b" ");
-        end = transcript::put_u64(out, at, wide(sums[k]));
-        k += 1;
-    }
-    transcript::put_word(out, end, b"\n")
 }
 
 // Looks at a block's actions, the first of which has that index, by 2 to 6 (13 after 5), up to the first refusal.

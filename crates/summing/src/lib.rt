@@ -32,7 +32,8 @@ pub fn feed(s: Reading, piece: &[u8], out: &mut [u8; 2048]) -> Fed
         return reading::after(s.n, Stage::Ended, entered.end);
     };
     let sums = runfile::action_sums(piece);
-    let at = block::put_sums(out, number, &sums, count);
+    let last = count as usize;
+    let at = figures::put_figures(out, 0, number as u64, &sums[..last]);
     let looked = block::look_at_actions(n, piece, count, order::accepted_by(stage));
     let part = block::put_refusal(out, at, n, looked);
     reading::after(n, order::stage_after(part.ended, number, count), part.end)

@@ -75,6 +75,9 @@ add-so-far c =
     let b = sum-small (drop 14 s) (l .k) (bytes-drop 14 s (λ (i : ℕ). omega (arith, c .before .before .before .before .shared-slice-known2 .given i))) (search needs) (simp length-drop (search needs)) in
     omega (arith, l .inv .3 .so-far, rw (e, n) at (c .weighed .ensures .1))
 
+cast-sums : tie.Need-cast-sums Inv-loop μ-loop
+cast-sums c = search needs
+
 mul-sums : tie.Need-mul-sums Inv-loop μ-loop
 mul-sums c = search needs
 
@@ -124,6 +127,7 @@ action-sums-spec =
     cast-weighed
     weighed-requires
     add-so-far
+    cast-sums
     mul-sums
     array-write-sums
     add-k
