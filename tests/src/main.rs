@@ -8,7 +8,7 @@ use std::process::ExitCode;
 use bench_model::harness::{
     bench, compare, compare_sums, compare_text, fuzz, generate, samples, walk,
 };
-use bench_model::{notation, player, sums, table};
+use bench_model::{counts, notation, player, sums, table};
 
 const USAGE: &str = "\
 model play                                        a run file in, the printed text out
@@ -17,6 +17,7 @@ model compose [--lines]                           a run in plain words in, a run
 model list                                        a run file in, the run in plain words out
 model sums                                        a run file in, the sums of its blocks out
 model table                                       the reception chart, 25 lines of 14 cells
+model counts                                      how many sequences of classes end where, 17 lines
 model compare PLAY [--files N] [--seed S] [--only K]
                                                   made files, played by PLAY and by the model
 model fuzz PLAY [--files N] [--seed S]            bytes without a plan
@@ -66,6 +67,10 @@ fn command() -> Result<(), String> {
         "table" => {
             rest.end()?;
             io::stdout().write_all(table::text().as_bytes()).map_err(|error| error.to_string())
+        }
+        "counts" => {
+            rest.end()?;
+            io::stdout().write_all(counts::text().as_bytes()).map_err(|error| error.to_string())
         }
         "compare-text" => {
             let files = rest.number("--files")?.unwrap_or(3000);
