@@ -18,30 +18,18 @@ use Rattle.charts.specs.Signals.{classOf}
 use Rattle.charts.specs.Reception.{answer, hears}
 use Rattle.charts.specs.Table.{modeAt, entry}
 use Rattle.charts.specs.State.{total, allBelow}
-use Rattle.charts.specs.Sequences.{headed, sequences, leads, leading, ending, placesFrom, rowOf, row, same, times, isSequence, ListsEach, left, LeavesThere, AddsUp, next, nextRow, Follows}
-use Rattle.charts.proofs.Tools.{pick, by-test}
+use Rattle.charts.specs.Sequences.{headed, sequences, leads, leading, ending, placesFrom, rowOf, row, same, times, ListsEach, LeavesThere, AddsUp, next, nextRow, Follows}
+use Rattle.charts.proofs.Tools.{by-test}
 use Rattle.charts.proofs.Places.{place-lt, key}
-use Rattle.charts.proofs.Sums.{total-agree, total-one}
+use Rattle.charts.proofs.Sums.{total-agree, total-none, total-one, total-add, total-swap}
 
--- sums of sums
-total-add : (u v : ℕ → ℕ) (n : ℕ) → total (λ k. u k + v k) n ≡ total u n + total v n
-total-add u v zero = refl
-total-add u v (suc n) = omega (arith, total-add u v n)
-
-total-zero : (n : ℕ) → total (λ k. 0) n ≡ 0
-total-zero zero = refl
-total-zero (suc n) = omega (arith, total-zero n)
-
-total-swap : (f : ℕ → ℕ → ℕ) (n m : ℕ) → total (λ i. total (f i) m) n ≡ total (λ j. total (λ i. f i j) n) m
-total-swap f zero m = sym (total-zero m)
-total-swap f (suc n) m = ap (λ x. x + total (f n) m) (total-swap f n m) ∙ sym (total-add (λ j. total (λ i. f i j) n) (f n) m)
-
+-- nothing is brought where there is nothing
 none : (b : Bool) {x : ℕ} → x ≡ 0 → cond b x 0 ≡ 0
 none true e = e
 none false e = refl
 
 -- a cell leads to one of the 25 places
-entry-lt : (p c : ℕ) → entry p c .place < 25
+pub entry-lt : (p c : ℕ) → entry p c .place < 25
 entry-lt p c = place-lt (answer 0 0 (modeAt p) c Start .mode)
 
 -- how many of the longer sequences lead to q: for each class, those of the shorter ones that lead there from where the class leads
@@ -99,7 +87,7 @@ forward zero p q h =
     once false = refl
 
     others : (r : ℕ) → r < 25 → r ≢ p → total (λ c. cond (eqb (entry r c .place) q) (leading p r (sequences 0)) 0) 14 ≡ 0
-    others r l d = total-agree _ (λ c. 0) 14 (λ c g. none (eqb (entry r c .place) q) (at-place p r (λ e. d (sym e)))) ∙ total-zero 14
+    others r l d = total-none _ 14 (λ c g. none (eqb (entry r c .place) q) (at-place p r (λ e. d (sym e))))
 forward (suc k) p q h =
     leading-headed p q 14 (sequences (suc k))
     ∙ total-agree _ _ 14 (λ c l. forward k (entry p c .place) q (entry-lt p c))
@@ -124,7 +112,7 @@ unfolding ending
 adds-up k = all-end k P.rest (lit< tt)
 
 -- a row's count at each of its places, and rows of equal counts
-pub places-at : (f : ℕ → ℕ) (n p q : ℕ) → q < n → getD (placesFrom n p f) q 0 ≡ f (p + q)
+places-at : (f : ℕ → ℕ) (n p q : ℕ) → q < n → getD (placesFrom n p f) q 0 ≡ f (p + q)
 places-at f zero p q h = absurd (omega arith)
 places-at f (suc n) p zero h = let e : p ≡ p + 0 = omega arith in ap f e
 places-at f (suc n) p (suc q) h = let e : suc p + q ≡ p + suc q = omega arith in places-at f n (suc p) q (omega arith) ∙ ap f e
@@ -137,7 +125,7 @@ places-agree f g zero p h = refl
 places-agree f g (suc n) p h = rw (h p, places-agree f g n (suc p) h) refl
 
 pub follows : Follows
-unfolding row ending
+unfolding row nextRow ending
 follows k = places-agree _ _ 25 0 (λ q. forward k P.rest q (lit< tt) ∙ next-agree _ _ q (λ p h. sym (row-at (ending k) p h)))
 
 -- a sequence leads to where signals of its classes leave a node
@@ -206,10 +194,13 @@ unfolding row ending
 row-0 = refl
 
 pub row-1 : row 1 ≡ 13 ∷ 0 ∷ 0 ∷ 0 ∷ 0 ∷ 1 ∷ 0 ∷ 0 ∷ 0 ∷ 0 ∷ 0 ∷ 0 ∷ 0 ∷ 0 ∷ 0 ∷ 0 ∷ 0 ∷ 0 ∷ 0 ∷ 0 ∷ 0 ∷ 0 ∷ 0 ∷ 0 ∷ 0 ∷ []
+unfolding nextRow
 row-1 = follows 0 ∙ ap nextRow row-0
 
 pub row-2 : row 2 ≡ 170 ∷ 0 ∷ 0 ∷ 0 ∷ 0 ∷ 13 ∷ 10 ∷ 0 ∷ 0 ∷ 0 ∷ 0 ∷ 0 ∷ 0 ∷ 0 ∷ 0 ∷ 3 ∷ 0 ∷ 0 ∷ 0 ∷ 0 ∷ 0 ∷ 0 ∷ 0 ∷ 0 ∷ 0 ∷ []
+unfolding nextRow
 row-2 = follows 1 ∙ ap nextRow row-1
 
 pub row-3 : row 3 ≡ 2236 ∷ 0 ∷ 0 ∷ 0 ∷ 0 ∷ 170 ∷ 130 ∷ 10 ∷ 10 ∷ 0 ∷ 0 ∷ 0 ∷ 0 ∷ 0 ∷ 0 ∷ 188 ∷ 0 ∷ 0 ∷ 0 ∷ 0 ∷ 0 ∷ 0 ∷ 0 ∷ 0 ∷ 0 ∷ []
+unfolding nextRow
 row-3 = follows 2 ∙ ap nextRow row-2

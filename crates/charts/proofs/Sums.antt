@@ -1,4 +1,4 @@
--- Sums over the nodes, and the receivers left of a delivery.
+-- Sums, most of them over the nodes, and the receivers left of a delivery.
 use mathlib.Core.Path.{_≡_, refl, sym, ap, subst, _∙_}
 use mathlib.Core.Logic.{_≢_, _⊎_, inl, inr}
 use mathlib.Core.Bool.{Bool, true, false, cond, _||_}
@@ -47,9 +47,18 @@ total-diff u v i (suc n) h l = go (eqb n i) refl (total-diff u v i n (λ k z. h 
         omega (arith, ap u e, ap v e, total-agree u v n (λ k l. h k (omega arith) (below k l e)))
     go false q r = let d : n ≢ i = eqb-false n i q in omega (arith, r (omega arith), h n (omega arith) d)
 
-total-none : (v : ℕ → ℕ) (n : ℕ) → ((k : ℕ) → k < n → v k ≡ 0) → total v n ≡ 0
+pub total-none : (v : ℕ → ℕ) (n : ℕ) → ((k : ℕ) → k < n → v k ≡ 0) → total v n ≡ 0
 total-none v zero h = refl
 total-none v (suc n) h = omega (arith, total-none v n (λ k l. h k (omega arith)), h n (omega arith))
+
+-- sums of sums
+pub total-add : (u v : ℕ → ℕ) (n : ℕ) → total (λ k. u k + v k) n ≡ total u n + total v n
+total-add u v zero = refl
+total-add u v (suc n) = omega (arith, total-add u v n)
+
+pub total-swap : (f : ℕ → ℕ → ℕ) (n m : ℕ) → total (λ i. total (f i) m) n ≡ total (λ j. total (λ i. f i j) n) m
+total-swap f zero m = sym (total-none (λ j. 0) m (λ k z. refl))
+total-swap f (suc n) m = ap (λ x. x + total (f n) m) (total-swap f n m) ∙ sym (total-add (λ j. total (λ i. f i j) n) (f n) m)
 
 -- where all but i are 0
 pub total-one : (v : ℕ → ℕ) (i n : ℕ) → i < n → ((k : ℕ) → k < n → k ≢ i → v k ≡ 0) → total v n ≡ v i

@@ -84,7 +84,7 @@ AddsUp = (k : ℕ) → total (ending k) 25 ≡ 14 ^ k
 abbrev pub next : (ℕ → ℕ) → ℕ → ℕ
 next f q = total (λ p. total (λ c. cond (eqb (entry p c .place) q) (f p) 0) 14) 25
 
-abbrev pub nextRow : List ℕ → List ℕ
+unfoldable pub nextRow : List ℕ → List ℕ
 nextRow l = rowOf (next (λ p. getD l p 0))
 
 abbrev pub Follows : Type 0

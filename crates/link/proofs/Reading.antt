@@ -17,7 +17,7 @@ use Rattle.charts.specs.Reception.{answer, hears}
 use Rattle.charts.specs.Table.{entryOf, entry}
 use Rattle.charts.proofs.Tools.{pick, everyPair, pairs-at}
 use Rattle.charts.proofs.Places.{key, place-lt, class-lt}
-use Rattle.link.specs.Reading.{code, indexOf, cells, reads, heardBy}
+use Rattle.link.specs.Reading.{code, placeIn, indexOf, cells, reads, heardBy}
 
 -- every cell of the table is the rule's
 agrees : T (everyPair (λ p c. eqb (getD cells (indexOf p c) 0) (code (entry p c))) 25 14)
@@ -26,6 +26,13 @@ agrees = tt
 
 pub cell-is : (p c : ℕ) → p < 25 → c < 14 → getD cells (indexOf p c) 0 ≡ code (entry p c)
 cell-is p c l k = eqb-true _ _ (pairs-at (λ p c. eqb (getD cells (indexOf p c) 0) (code (entry p c))) 25 14 agrees p c l k)
+
+-- and names the rule's next place
+names-next : T (everyPair (λ p c. eqb (placeIn (code (entry p c))) (entry p c .place)) 25 14)
+names-next = tt
+
+pub next-place : (p c : ℕ) → p < 25 → c < 14 → placeIn (getD cells (indexOf p c) 0) ≡ entry p c .place
+next-place p c l k = ap placeIn (cell-is p c l k) ∙ eqb-true _ _ (pairs-at (λ p c. eqb (placeIn (code (entry p c))) (entry p c .place)) 25 14 names-next p c l k)
 
 -- a node that reads the cell of what the chart says does just that: nothing that a mode remembers is lost
 kept : (me label : ℕ) (m : Mode) (c : ℕ) (s : Signal) → reads (code (entryOf (answer me label m c s))) me label m s ≡ answer me label m c s

@@ -399,7 +399,8 @@ pub(crate) fn cell_at(table: &[u16; 350], place: u8, class: u8) -> u16
     table[14 * place as usize + class as usize]
 }
 
-pub(crate) fn place_in(cell: u16) -> u8
+// The next mode's place, as a cell names it.
+pub fn place_in(cell: u16) -> u8
     ensures { λ r. ⌜ r ≡ placeIn cell ⌝ }
 {
     (cell % 32) as u8

@@ -1,6 +1,6 @@
 -- The text that `sums` prints of a run file: the file walked, each block headed by its line of sums, and its actions looked at.
 use mathlib.Core.Bool.{true, false, cond}
-use mathlib.Core.List.{List, [], _∷_, _++_}
+use mathlib.Core.List.{List, [], _++_}
 use Prim.Native.Nat.{ℕ, zero, suc}
 use lib.Dec.{eqb}
 use lib.ListN.{length, take, drop}

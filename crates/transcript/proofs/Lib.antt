@@ -3,3 +3,4 @@ pub mod Decimals
 pub mod Rooms
 pub mod Said
 pub mod PrintLaws
+pub mod Texts

@@ -1,7 +1,7 @@
 -- "A run printed": the lines of text.
 use mathlib.Core.Bool.{Bool, cond}
 use mathlib.Core.List.{List, [], _∷_, _++_}
-use Prim.Native.Nat.{ℕ}
+use Prim.Native.Nat.{ℕ, zero, suc}
 use lib.Dec.{eqb}
 use Rattle.charts.specs.declared.Reading.{Reading}
 use Rattle.charts.specs.declared.Reading.the-variants as Rd
@@ -16,6 +16,11 @@ abbrev pub line : List (List ℕ) → List ℕ
 line [] = 10 ∷ []
 line (w ∷ []) = w ++ (10 ∷ [])
 line (w ∷ v ∷ l) = w ++ (32 ∷ line (v ∷ l))
+
+-- the texts of n numbers from i on, one after the other
+abbrev pub textsFrom : (ℕ → List ℕ) → ℕ → ℕ → List ℕ
+textsFrom f zero i = []
+textsFrom f (suc n) i = f i ++ textsFrom f n (suc i)
 
 -- the first word of a report by its number, `-` for none
 abbrev pub firstWord : ℕ → List ℕ
