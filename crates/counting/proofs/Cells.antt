@@ -11,7 +11,7 @@ use lib.Seq.{ext-getD, getD-set-same, getD-set-other}
 use borrow.Author.Tests.{eqb-true, eqb-false}
 use Rattle.charts.specs.State.{total}
 use Rattle.charts.specs.Table.{entry}
-use Rattle.charts.specs.Sequences.{placesFrom, rowOf, next, nextRow}
+use Rattle.charts.specs.Sequences.{next, nextRow}
 use Rattle.charts.proofs.Sums.{total-agree}
 use Rattle.charts.proofs.Sequences.{entry-lt, row-at}
 use Rattle.link.specs.Reading.{placeIn, cells}

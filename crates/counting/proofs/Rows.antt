@@ -1,16 +1,15 @@
--- What the rows add up to, and the lines that are left. Assumes nothing.
-use mathlib.Core.Path.{_≡_, refl, sym, ap, _∙_}
-use mathlib.Core.List.{List, [], _∷_, _++_}
-use Prim.Native.Nat.{ℕ, suc, _+_, _-_, _<_, _≤_, _^_}
+-- The rows that are made. Assumes nothing.
+use mathlib.Core.Path.{_≡_, refl, _∙_}
+use Prim.Native.Nat.{ℕ, _<_, _≤_, _^_}
 use native.Mathlib.Nat.{pow-le-pow-right}
 use native.Mathlib.Omega.{arith}
 use lib.ListN.{getD}
 use lib.Dec.{lit<}
-use Rattle.charts.specs.State.{total}
+use borrow.Author.Tests.{le-leb}
 use Rattle.charts.specs.Sequences.{ending, row}
 use Rattle.charts.proofs.Sums.{total-agree}
 use Rattle.charts.proofs.Sequences.{adds-up, row-at}
-use Rattle.counting.specs.Rows.{sumOf}
+use Rattle.counting.specs.Rows.{sumOf, rowMade}
 
 pub row-sum : (k : ℕ) → sumOf (row k) ≡ 14 ^ k
 unfolding sumOf row
@@ -19,3 +18,7 @@ row-sum k = total-agree (λ p. getD (row k) p 0) (ending k) 25 (λ p h. row-at (
 -- below 16 classes there is room for one more
 pub row-small : (k : ℕ) → k < 16 → sumOf (row k) ≤ 155568095557812224
 row-small k h = rw (row-sum k) (pow-le-pow-right {n = 14} (lit< tt) {i = k} {j = 15} (omega arith))
+
+pub made : (k : ℕ) → k ≤ 16 → rowMade k ≡ row k
+unfolding rowMade
+made k h = rw (le-leb k 16 h) refl

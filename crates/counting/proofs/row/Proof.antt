@@ -1,14 +1,13 @@
-use mathlib.Core.Path.{_≡_, refl, sym, ap, _∙_}
+use mathlib.Core.Path.{_≡_, refl, sym, _∙_}
 use Prim.Native.Nat.{_-_, _≤_}
 use native.Mathlib.Numerals.{add-one}
 use native.Mathlib.Omega.{arith}
 use borrow.Author.Needs.{needs}
-use borrow.Author.Tests.{le-leb, lt-leb}
+use borrow.Author.Tests.{lt-leb}
 use Rattle.charts.specs.Sequences as Sequences
-use Rattle.charts.specs.Sequences.{nextRow}
 use Rattle.charts.proofs.Sequences.{follows, row-0}
 use Rattle.counting.specs.Rows.{rowMade}
-use Rattle.counting.proofs.Rows.{row-small}
+use Rattle.counting.proofs.Rows.{row-small, made}
 use Rattle.counting.proofs.row.Statement.{statement}
 use Rattle.counting.proofs.row.Tie as tie
 
@@ -48,12 +47,11 @@ loop-again c =
     (search needs, c .next-row .ensures ∙ rw (add-one (l .length), l .inv .1) (sym (follows (l .length))))
 
 returns-2 : tie.Need-returns-2 Inv-loop μ-loop
-unfolding rowMade
 returns-2 c =
     let l = c .before .loop in
     let k = c .before .before .before .before .args .k in
     let all : l .length ≡ k = omega (arith, l .inv .0, c .loop-test .left) in
-    rw (le-leb k 16 (c .before .before .before .if1 .left), ← all) (l .inv .1)
+    rw (made k (c .before .before .before .if1 .left), ← all) (l .inv .1)
 
 pub row-spec : {M : Type 1} → statement M
 row-spec =
