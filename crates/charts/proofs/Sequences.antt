@@ -23,6 +23,19 @@ use Rattle.charts.proofs.Tools.{by-test}
 use Rattle.charts.proofs.Places.{place-lt, key}
 use Rattle.charts.proofs.Sums.{total-agree, total-none, total-one, total-add, total-swap}
 
+-- "For k = 1 that is 1 in Opened and 13 in Rest": the first rows, from the list itself
+pub row-0 : row 0 ≡ 1 ∷ 0 ∷ 0 ∷ 0 ∷ 0 ∷ 0 ∷ 0 ∷ 0 ∷ 0 ∷ 0 ∷ 0 ∷ 0 ∷ 0 ∷ 0 ∷ 0 ∷ 0 ∷ 0 ∷ 0 ∷ 0 ∷ 0 ∷ 0 ∷ 0 ∷ 0 ∷ 0 ∷ 0 ∷ []
+unfolding row ending
+row-0 = refl
+
+pub row-1 : row 1 ≡ 13 ∷ 0 ∷ 0 ∷ 0 ∷ 0 ∷ 1 ∷ 0 ∷ 0 ∷ 0 ∷ 0 ∷ 0 ∷ 0 ∷ 0 ∷ 0 ∷ 0 ∷ 0 ∷ 0 ∷ 0 ∷ 0 ∷ 0 ∷ 0 ∷ 0 ∷ 0 ∷ 0 ∷ 0 ∷ []
+unfolding row ending
+row-1 = refl
+
+pub row-2 : row 2 ≡ 170 ∷ 0 ∷ 0 ∷ 0 ∷ 0 ∷ 13 ∷ 10 ∷ 0 ∷ 0 ∷ 0 ∷ 0 ∷ 0 ∷ 0 ∷ 0 ∷ 0 ∷ 3 ∷ 0 ∷ 0 ∷ 0 ∷ 0 ∷ 0 ∷ 0 ∷ 0 ∷ 0 ∷ 0 ∷ []
+unfolding row ending
+row-2 = refl
+
 -- nothing is brought where there is nothing
 none : (b : Bool) {x : ℕ} → x ≡ 0 → cond b x 0 ≡ 0
 none true e = e
@@ -51,6 +64,19 @@ at-place p q d = rw (ne-eqb p q d) refl
 
 at-own : (p : ℕ) → leading p p (sequences 0) ≡ 1
 at-own p = rw (eq-eqb p p refl) refl
+
+-- every sequence ends at one of the 25 places
+all-end : (k p : ℕ) → p < 25 → total (λ q. leading p q (sequences k)) 25 ≡ 14 ^ k
+all-end zero p h = total-one (λ q. leading p q (sequences 0)) p 25 h (λ q l d. at-place p q (λ e. d (sym e))) ∙ at-own p
+all-end (suc k) p h =
+    total-agree _ _ 25 (λ q l. leading-headed p q 14 (sequences k))
+    ∙ total-swap (λ q c. leading (entry p c .place) q (sequences k)) 25 14
+    ∙ total-agree _ (λ c. 14 ^ k) 14 (λ c l. all-end k (entry p c .place) (entry-lt p c))
+    ∙ omega (arith, pow-succ' 14 k)
+
+pub adds-up : AddsUp
+unfolding ending
+adds-up k = all-end k P.rest (lit< tt)
 
 -- what comes of two counts comes of their sum
 next-add : (u v : ℕ → ℕ) (q : ℕ) → next (λ p. u p + v p) q ≡ next u q + next v q
@@ -93,23 +119,6 @@ forward (suc k) p q h =
     ∙ total-agree _ _ 14 (λ c l. forward k (entry p c .place) q (entry-lt p c))
     ∙ next-total (λ c r. leading (entry p c .place) r (sequences k)) 14 q
     ∙ sym (next-agree _ _ q (λ r l. leading-headed p r 14 (sequences k)))
-
--- every sequence ends at one of the 25 places
-all-end : (k p : ℕ) → p < 25 → total (λ q. leading p q (sequences k)) 25 ≡ 14 ^ k
-all-end zero p h = total-one (λ q. leading p q (sequences 0)) p 25 h (λ q l d. at-place p q (λ e. d (sym e))) ∙ at-own p
-all-end (suc k) p h =
-    total-agree _ _ 25 (λ q l. leading-headed p q 14 (sequences k))
-    ∙ total-swap (λ q c. leading (entry p c .place) q (sequences k)) 25 14
-    ∙ total-agree _ (λ c. 14 ^ k) 14 (λ c l. all-end k (entry p c .place) (entry-lt p c))
-    ∙ fourteen (14 ^ k)
-    ∙ sym (pow-succ' 14 k)
-  where
-    fourteen : (x : ℕ) → total (λ c. x) 14 ≡ 14 * x
-    fourteen x = omega arith
-
-pub adds-up : AddsUp
-unfolding ending
-adds-up k = all-end k P.rest (lit< tt)
 
 -- a row's count at each of its places, and rows of equal counts
 places-at : (f : ℕ → ℕ) (n p q : ℕ) → q < n → getD (placesFrom n p f) q 0 ≡ f (p + q)
@@ -188,19 +197,7 @@ lists-each (suc k) (c ∷ s) =
     either false true d = refl
     either false false d = refl
 
--- "For k = 1 that is 1 in Opened and 13 in Rest": the first rows, counted by hand (docs/COUNTS.md), are the law's
-pub row-0 : row 0 ≡ 1 ∷ 0 ∷ 0 ∷ 0 ∷ 0 ∷ 0 ∷ 0 ∷ 0 ∷ 0 ∷ 0 ∷ 0 ∷ 0 ∷ 0 ∷ 0 ∷ 0 ∷ 0 ∷ 0 ∷ 0 ∷ 0 ∷ 0 ∷ 0 ∷ 0 ∷ 0 ∷ 0 ∷ 0 ∷ []
-unfolding row ending
-row-0 = refl
-
-pub row-1 : row 1 ≡ 13 ∷ 0 ∷ 0 ∷ 0 ∷ 0 ∷ 1 ∷ 0 ∷ 0 ∷ 0 ∷ 0 ∷ 0 ∷ 0 ∷ 0 ∷ 0 ∷ 0 ∷ 0 ∷ 0 ∷ 0 ∷ 0 ∷ 0 ∷ 0 ∷ 0 ∷ 0 ∷ 0 ∷ 0 ∷ []
-unfolding nextRow
-row-1 = follows 0 ∙ ap nextRow row-0
-
-pub row-2 : row 2 ≡ 170 ∷ 0 ∷ 0 ∷ 0 ∷ 0 ∷ 13 ∷ 10 ∷ 0 ∷ 0 ∷ 0 ∷ 0 ∷ 0 ∷ 0 ∷ 0 ∷ 0 ∷ 3 ∷ 0 ∷ 0 ∷ 0 ∷ 0 ∷ 0 ∷ 0 ∷ 0 ∷ 0 ∷ 0 ∷ []
-unfolding nextRow
-row-2 = follows 1 ∙ ap nextRow row-1
-
+-- the next one, by the recurrence; docs/COUNTS.md has them by hand
 pub row-3 : row 3 ≡ 2236 ∷ 0 ∷ 0 ∷ 0 ∷ 0 ∷ 170 ∷ 130 ∷ 10 ∷ 10 ∷ 0 ∷ 0 ∷ 0 ∷ 0 ∷ 0 ∷ 0 ∷ 188 ∷ 0 ∷ 0 ∷ 0 ∷ 0 ∷ 0 ∷ 0 ∷ 0 ∷ 0 ∷ 0 ∷ []
 unfolding nextRow
 row-3 = follows 2 ∙ ap nextRow row-2

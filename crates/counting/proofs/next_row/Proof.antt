@@ -40,20 +40,20 @@ mul-next-2 c = search needs
 array-read-next-2 : tie.Need-array-read-next-2 Inv-loop μ-loop
 array-read-next-2 c =
     let l = c .before .before .before .loop in
-    let led : c .place-in .result ≡ placeAt (l .i) = rw (c .before .before .before .before .pre .0, place-at (l .i) (c .before .before .loop-test .taken)) at (c .place-in .ensures) in
+    let led : c .place-in .result ≡ placeAt (l .i) = rw (c .before .before .before .before .pre .0, place-at (l .i) (omega (arith, c .before .before .loop-test .taken))) at (c .place-in .ensures) in
     rw led (entry-lt (l .i / 14) (l .i % 14))
 
 add-next : tie.Need-add-next Inv-loop μ-loop
 add-next c =
     let l = c .before .before .before .loop in
-    let led : c .place-in .result ≡ placeAt (l .i) = rw (c .before .before .before .before .pre .0, place-at (l .i) (c .before .before .loop-test .taken)) at (c .place-in .ensures) in
-    let fits = sum-fits (c .before .before .before .before .args .t1) (l .next) (l .i) (l .inv .1) (c .before .before .loop-test .taken) in
+    let led : c .place-in .result ≡ placeAt (l .i) = rw (c .before .before .before .before .pre .0, place-at (l .i) (omega (arith, c .before .before .loop-test .taken))) at (c .place-in .ensures) in
+    let fits = sum-fits (c .before .before .before .before .args .t1) (l .next) (l .i) (l .inv .1) (omega (arith, c .before .before .loop-test .taken)) in
     rw led (omega (arith, fits, c .before .before .before .before .pre .1))
 
 array-write-next : tie.Need-array-write-next Inv-loop μ-loop
 array-write-next c =
     let l = c .before .before .before .loop in
-    let led : c .place-in .result ≡ placeAt (l .i) = rw (c .before .before .before .before .pre .0, place-at (l .i) (c .before .before .loop-test .taken)) at (c .place-in .ensures) in
+    let led : c .place-in .result ≡ placeAt (l .i) = rw (c .before .before .before .before .pre .0, place-at (l .i) (omega (arith, c .before .before .loop-test .taken))) at (c .place-in .ensures) in
     rw led (entry-lt (l .i / 14) (l .i % 14))
 
 add-i : tie.Need-add-i Inv-loop μ-loop
@@ -65,7 +65,7 @@ loop-less c = search needs
 loop-again : tie.Need-loop-again Inv-loop μ-loop
 loop-again c =
     let l = c .before .before .before .loop in
-    let led : c .place-in .result ≡ placeAt (l .i) = rw (c .before .before .before .before .pre .0, place-at (l .i) (c .before .before .loop-test .taken)) at (c .place-in .ensures) in
+    let led : c .place-in .result ≡ placeAt (l .i) = rw (c .before .before .before .before .pre .0, place-at (l .i) (omega (arith, c .before .before .loop-test .taken))) at (c .place-in .ensures) in
     (search needs, rw led (one-more (c .before .before .before .before .args .t1) (l .next) (l .i) (l .inv .1)))
 
 returns : tie.Need-returns Inv-loop μ-loop

@@ -54,7 +54,7 @@ loop-again c =
     let size : length (row .result) ≡ 25 = search needs in
     let long : length (l .out) ≡ 16384 = search (needs, c .before .before .put-figures-arg .given) in
     let line = puts-in {buf = l .out} {at = l .end} {text = figuresLine (l .k) (row .result)} (roomFor (row .result)) (omega (arith, size, more, l .inv .1)) (put .1 .0) (put .1 .1) in
-    let own : Puts (l .out) (l .end) (lineFor (l .k)) (c .put-figures .result) (c .put-figures .last .0) = rw (row .ensures ∙ made (l .k) more) at line in
+    let own : Puts (l .out) (l .end) (lineFor (l .k)) (c .put-figures .result) (c .put-figures .last .0) = rw (row .ensures ∙ made (l .k) (omega (arith, more))) at line in
     (omega (arith, more), omega (arith, put .0, size, l .inv .1), λ stop last p. l .inv .2 stop last (rw (texts-more lineFor 17 (l .k) (omega (arith, more))) (and-then own p)))
 
 returns : tie.Need-returns Inv-loop μ-loop

@@ -19,7 +19,7 @@ abbrev μ-loop : tie.MeasureT-loop
 
 returns : tie.Need-returns Inv-loop μ-loop
 unfolding rowMade
-returns c = rw (lt-leb (c .before .args .k) 16 (c .if1 .taken)) refl
+returns c = rw (lt-leb (c .before .args .k) 16 (omega (arith, c .if1 .taken))) refl
 
 array-write-row : tie.Need-array-write-row Inv-loop μ-loop
 array-write-row c = search needs
@@ -51,7 +51,7 @@ returns-2 c =
     let l = c .before .loop in
     let k = c .before .before .before .before .args .k in
     let all : l .length ≡ k = omega (arith, l .inv .0, c .loop-test .left) in
-    rw (made k (c .before .before .before .if1 .left), ← all) (l .inv .1)
+    rw (made k (omega (arith, c .before .before .before .if1 .left)), ← all) (l .inv .1)
 
 pub row-spec : {M : Type 1} → statement M
 row-spec =
