@@ -15,8 +15,8 @@ pub row-sum : (k : ℕ) → sumOf (row k) ≡ 14 ^ k
 unfolding sumOf row
 row-sum k = total-agree (λ p. getD (row k) p 0) (ending k) 25 (λ p h. row-at (ending k) p h) ∙ adds-up k
 
--- below 16 classes there is room for one more
-pub row-small : (k : ℕ) → k < 16 → sumOf (row k) ≤ 155568095557812224
+-- what next_row asks for: sequences of fewer than 16 classes have room for one more
+pub row-small : (k : ℕ) → k < 16 → sumOf (row k) ≤ 14 ^ 15
 row-small k h = rw (row-sum k) (pow-le-pow-right {n = 14} (lit< tt) {i = k} {j = 15} (omega arith))
 
 pub made : (k : ℕ) → k ≤ 16 → rowMade k ≡ row k

@@ -1,6 +1,6 @@
 // How many sequences of signals leave a node in which mode: for each length a row of 25 counts, by the reception chart's table, and their text.
 ghost use mathlib.Core.Path.{_≡_};
-ghost use Prim.Native.Nat.{_≤_};
+ghost use Prim.Native.Nat.{_^_, _≤_};
 ghost use lib.ListN.{length};
 ghost use Rattle.charts.specs.Sequences.{nextRow};
 ghost use Rattle.link.specs.Reading.{cells};
@@ -14,13 +14,13 @@ const CLASSES: usize = 14;
 
 const REST: usize = 0;
 
-// The longest sequences: of 17 classes there are more than 64 bits count.
+// Of 17 classes there are more sequences than 64 bits can count.
 const LONGEST: u8 = 16;
 
-// The row of sequences that are longer by one class: each cell of the table takes what its mode has to the next one.
+// The row of the sequences that are longer by one class: each cell of the table takes the count of its own mode to the next one.
 fn next_row(row: [u64; 25], table: &[u16; 350]) -> [u64; 25]
     requires { ⌜ now table ≡ cells ⌝ }
-    requires { ⌜ sumOf row ≤ 155568095557812224 ⌝ }
+    requires { ⌜ sumOf row ≤ 14 ^ 15 ⌝ }
     ensures { λ r. ⌜ r ≡ nextRow row ⌝ }
 {
     let mut next: [u64; 25] = [0u64; 25];
