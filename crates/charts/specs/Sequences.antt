@@ -50,14 +50,13 @@ rowOf f = placesFrom 25 0 f
 unfoldable pub row : ℕ → List ℕ
 row k = rowOf (ending k)
 
--- the claims. First, the list has every sequence of k classes, each once, and nothing else
+-- The claims, for every k. Two sequences are the same; how often one stands in a list
 abbrev pub same : List ℕ → List ℕ → Bool
 same [] [] = true
 same [] (d ∷ t) = false
 same (c ∷ s) [] = false
 same (c ∷ s) (d ∷ t) = eqb c d && same s t
 
--- how often a sequence stands in a list
 abbrev pub times : List ℕ → List (List ℕ) → ℕ
 times s [] = 0
 times s (t ∷ l) = cond (same s t) 1 0 + times s l
@@ -65,14 +64,16 @@ times s (t ∷ l) = cond (same s t) 1 0 + times s l
 abbrev pub isSequence : ℕ → List ℕ → Bool
 isSequence k s = eqb (length s) k && allBelow s 14
 
+-- the list has every sequence of k classes, each once, and nothing else
 abbrev pub ListsEach : Type 0
 ListsEach = (k : ℕ) (s : List ℕ) → times s (sequences k) ≡ cond (isSequence k s) 1 0
 
--- a sequence leads to where signals of its classes leave a node, whatever they carry and whatever the node remembers
+-- the mode in which some signals, one after the other, leave node `me`
 abbrev pub left : ℕ → ℕ → Mode → List Signal → Mode
 left me label m [] = m
 left me label m (s ∷ l) = left me label (hears me label m s .mode) l
 
+-- a sequence leads to where signals of its classes leave a node, whatever they carry and whatever the node remembers
 abbrev pub LeavesThere : Type 0
 LeavesThere = (me label : ℕ) (m : Mode) (l : List Signal) → placeOf (left me label m l) ≡ leads (placeOf m) (map (classOf me) l)
 

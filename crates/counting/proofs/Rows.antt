@@ -1,9 +1,10 @@
 -- The rows that are made. Assumes nothing.
-use mathlib.Core.Path.{_≡_, refl, _∙_}
+use mathlib.Core.Path.{_≡_, refl, ap, _∙_}
+use mathlib.Core.Logic.{_≢_}
 use Prim.Native.Nat.{ℕ, _<_, _≤_, _^_}
-use native.Mathlib.Nat.{pow-le-pow-right}
+use native.Mathlib.Nat.{one-le-pow, pow-le-pow-right}
 use native.Mathlib.Omega.{arith}
-use lib.ListN.{getD}
+use lib.ListN.{getD, replicate}
 use lib.Dec.{lit<}
 use borrow.Author.Tests.{le-leb}
 use Rattle.charts.specs.Sequences.{ending, row}
@@ -22,3 +23,8 @@ row-small k h = rw (row-sum k) (pow-le-pow-right {n = 14} (lit< tt) {i = k} {j =
 pub made : (k : ℕ) → k ≤ 16 → rowMade k ≡ row k
 unfolding rowMade
 made k h = rw (le-leb k 16 h) refl
+
+-- what is answered past 16 is no row
+pub no-row : (k : ℕ) → row k ≢ replicate 25 0
+unfolding sumOf
+no-row k e = let none : sumOf (row k) ≡ 0 = ap sumOf e in absurd (omega (arith, row-sum k, one-le-pow k 14 (lit< tt)))
