@@ -16,14 +16,10 @@ use Rattle.charts.proofs.Sums.{total-agree}
 use Rattle.charts.proofs.Sequences.{entry-lt, row-at}
 use Rattle.link.specs.Reading.{placeIn, cells}
 use Rattle.link.proofs.Reading.{next-place}
-use Rattle.counting.specs.Rows.{sumOf}
+use Rattle.counting.specs.Rows.{placeAt, sumOf}
 
--- where cell i leads, mode by mode
-abbrev pub placeAt : ℕ → ℕ
-placeAt i = entry (i / 14) (i % 14) .place
-
-pub place-at : (i : ℕ) → i < 350 → placeIn (getD cells i 0) ≡ placeAt i
-place-at i h =
+pub leads-to : (i : ℕ) → i < 350 → placeIn (getD cells i 0) ≡ placeAt i
+leads-to i h =
     let e : 14 * (i / 14) + i % 14 ≡ i = omega arith in
     ap (λ j. placeIn (getD cells j 0)) (sym e) ∙ next-place (i / 14) (i % 14) (omega arith) (omega arith)
 

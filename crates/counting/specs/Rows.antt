@@ -1,13 +1,18 @@
 -- Request 7: the rows that are made of counts, and their text.
 use mathlib.Core.Bool.{cond}
 use mathlib.Core.List.{List}
-use Prim.Native.Nat.{ℕ}
+use Prim.Native.Nat.{ℕ, _/_, _%_}
 use lib.Dec.{leb}
 use lib.ListN.{getD, replicate}
+use Rattle.charts.specs.Table.{entry}
 use Rattle.charts.specs.State.{total}
 use Rattle.charts.specs.Sequences.{row}
 use Rattle.transcript.specs.Lines.{textsFrom}
 use Rattle.figures.specs.Figures.{figuresLine}
+
+-- the place to which the i-th cell of the table leads, mode by mode
+abbrev pub placeAt : ℕ → ℕ
+placeAt i = entry (i / 14) (i % 14) .place
 
 -- what a row adds up to
 unfoldable pub sumOf : List ℕ → ℕ

@@ -1,11 +1,11 @@
 // How many sequences of signals leave a node in which mode: for each length a row of 25 counts, by the reception chart's table, and their text.
 ghost use mathlib.Core.Path.{_≡_};
-ghost use Prim.Native.Nat.{_^_, _≤_};
+ghost use Prim.Native.Nat.{_^_, _≤_, _<_};
 ghost use lib.ListN.{length};
 ghost use Rattle.charts.specs.Sequences.{nextRow};
 ghost use Rattle.link.specs.Reading.{cells};
 ghost use Rattle.transcript.specs.Room.{put};
-ghost use Rattle.counting.specs.Rows.{sumOf, rowMade, countsText};
+ghost use Rattle.counting.specs.Rows.{placeAt, sumOf, rowMade, countsText};
 
 // 25 modes by 14 classes of signals.
 const CELLS: usize = 350;
@@ -17,6 +17,16 @@ const REST: usize = 0;
 // Of 17 classes there are more sequences than 64 bits can count.
 const LONGEST: u8 = 16;
 
+// Where the i-th cell of the table leads.
+fn place_at(table: &[u16; 350], i: usize) -> usize
+    requires { ⌜ now table ≡ cells ⌝ }
+    requires { ⌜ i < 350 ⌝ }
+    ensures { λ r. ⌜ r < 25 ⌝ }
+    ensures { λ r. ⌜ r ≡ placeAt i ⌝ }
+{
+    link::table::place_in(table[i]) as usize
+}
+
 // The row of the sequences that are longer by one class: each cell of the table takes the count of its own mode to the next one.
 fn next_row(row: [u64; 25], table: &[u16; 350]) -> [u64; 25]
     requires { ⌜ now table ≡ cells ⌝ }
@@ -26,8 +36,7 @@ fn next_row(row: [u64; 25], table: &[u16; 350]) -> [u64; 25]
     let mut next: [u64; 25] = [0u64; 25];
     let mut i: usize = 0;
     while i < CELLS {
-        let place = link::table::place_in(table[i]) as usize;
-        next[place] += row[i / CLASSES];
+        next[place_at(table, i)] += row[i / CLASSES];
         i += 1;
     }
     next

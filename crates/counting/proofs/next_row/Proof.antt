@@ -1,9 +1,8 @@
 use mathlib.Core.Path.{_≡_}
-use Prim.Native.Nat.{_/_, _%_, _-_, _≤_}
+use Prim.Native.Nat.{_-_, _≤_}
 use native.Mathlib.Omega.{arith}
 use borrow.Author.Needs.{needs}
-use Rattle.charts.proofs.Sequences.{entry-lt}
-use Rattle.counting.proofs.Cells.{placeAt, place-at, Taken, none-taken, one-more, all-taken, sum-fits}
+use Rattle.counting.proofs.Cells.{Taken, none-taken, one-more, all-taken, sum-fits}
 use Rattle.counting.proofs.next_row.Statement.{statement}
 use Rattle.counting.proofs.next_row.Tie as tie
 
@@ -16,45 +15,29 @@ abbrev μ-loop : tie.MeasureT-loop
 loop-holds : tie.Need-loop-holds Inv-loop μ-loop
 loop-holds c = (search needs, none-taken _)
 
-mul-place-in : tie.Need-mul-place-in Inv-loop μ-loop
-mul-place-in c = search needs
-
-element-copy-out-place-in : tie.Need-element-copy-out-place-in Inv-loop μ-loop
-element-copy-out-place-in c = search needs
-
-place-in-requires : tie.Need-place-in-requires Inv-loop μ-loop
-place-in-requires c κs = search needs
-
-cast-place : tie.Need-cast-place Inv-loop μ-loop
-cast-place c = search needs
-
 mul-next : tie.Need-mul-next Inv-loop μ-loop
 mul-next c = search needs
 
 array-read-next : tie.Need-array-read-next Inv-loop μ-loop
 array-read-next c = search needs
 
+place-at-requires : tie.Need-place-at-requires Inv-loop μ-loop
+place-at-requires c κs = (c .before .before .pre .0, omega (arith, c .loop-test .taken))
+
 mul-next-2 : tie.Need-mul-next-2 Inv-loop μ-loop
 mul-next-2 c = search needs
 
 array-read-next-2 : tie.Need-array-read-next-2 Inv-loop μ-loop
-array-read-next-2 c =
-    let l = c .before .before .before .loop in
-    let led : c .place-in .result ≡ placeAt (l .i) = rw (c .before .before .before .before .pre .0, place-at (l .i) (omega (arith, c .before .before .loop-test .taken))) at (c .place-in .ensures) in
-    rw led (entry-lt (l .i / 14) (l .i % 14))
+array-read-next-2 c = search needs
 
 add-next : tie.Need-add-next Inv-loop μ-loop
 add-next c =
-    let l = c .before .before .before .loop in
-    let led : c .place-in .result ≡ placeAt (l .i) = rw (c .before .before .before .before .pre .0, place-at (l .i) (omega (arith, c .before .before .loop-test .taken))) at (c .place-in .ensures) in
-    let fits = sum-fits (c .before .before .before .before .args .t1) (l .next) (l .i) (l .inv .1) (omega (arith, c .before .before .loop-test .taken)) in
-    rw led (omega (arith, fits, c .before .before .before .before .pre .1))
+    let l = c .before .before .loop in
+    let fits = sum-fits (c .before .before .before .args .t1) (l .next) (l .i) (l .inv .1) (omega (arith, c .before .loop-test .taken)) in
+    rw (c .place-at .ensures .1) (omega (arith, fits, c .before .before .before .pre .1))
 
 array-write-next : tie.Need-array-write-next Inv-loop μ-loop
-array-write-next c =
-    let l = c .before .before .before .loop in
-    let led : c .place-in .result ≡ placeAt (l .i) = rw (c .before .before .before .before .pre .0, place-at (l .i) (omega (arith, c .before .before .loop-test .taken))) at (c .place-in .ensures) in
-    rw led (entry-lt (l .i / 14) (l .i % 14))
+array-write-next c = search needs
 
 add-i : tie.Need-add-i Inv-loop μ-loop
 add-i c = search needs
@@ -64,9 +47,8 @@ loop-less c = search needs
 
 loop-again : tie.Need-loop-again Inv-loop μ-loop
 loop-again c =
-    let l = c .before .before .before .loop in
-    let led : c .place-in .result ≡ placeAt (l .i) = rw (c .before .before .before .before .pre .0, place-at (l .i) (omega (arith, c .before .before .loop-test .taken))) at (c .place-in .ensures) in
-    (search needs, rw led (one-more (c .before .before .before .before .args .t1) (l .next) (l .i) (l .inv .1)))
+    let l = c .before .before .loop in
+    (search needs, rw (c .place-at .ensures .1) (one-more (c .before .before .before .args .t1) (l .next) (l .i) (l .inv .1)))
 
 returns : tie.Need-returns Inv-loop μ-loop
 returns c =
@@ -81,12 +63,9 @@ next-row-spec =
     Inv-loop
     μ-loop
     loop-holds
-    mul-place-in
-    element-copy-out-place-in
-    place-in-requires
-    cast-place
     mul-next
     array-read-next
+    place-at-requires
     mul-next-2
     array-read-next-2
     add-next
