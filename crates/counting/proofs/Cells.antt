@@ -18,6 +18,7 @@ use Rattle.link.specs.Reading.{placeIn, cells}
 use Rattle.link.proofs.Reading.{next-place}
 use Rattle.counting.specs.Rows.{placeAt, sumOf}
 
+-- the number that the table holds for cell i names where it leads
 pub leads-to : (i : ℕ) → i < 350 → placeIn (getD cells i 0) ≡ placeAt i
 leads-to i h =
     let e : 14 * (i / 14) + i % 14 ≡ i = omega arith in
@@ -44,9 +45,9 @@ by-modes f (suc n) =
         rw (p, q) refl
 
 -- sums of more, and of more of them
-total-le : (u v : ℕ → ℕ) (n : ℕ) → ((k : ℕ) → u k ≤ v k) → total u n ≤ total v n
-total-le u v zero h = omega arith
-total-le u v (suc n) h = omega (arith, total-le u v n h, h n)
+total-mono : (u v : ℕ → ℕ) (n : ℕ) → ((k : ℕ) → u k ≤ v k) → total u n ≤ total v n
+total-mono u v zero h = omega arith
+total-mono u v (suc n) h = omega (arith, total-mono u v n h, h n)
 
 total-first : (u : ℕ → ℕ) (m n : ℕ) → m ≤ n → total u m ≤ total u n
 total-first u m n h = let e : n ≡ m + (n - m) = omega arith in rw e (omega (arith, total-cat u m (n - m)))
@@ -63,6 +64,7 @@ pub record Taken (row after : List ℕ) (i : ℕ) : Type 0 where
 pub none-taken : (row : List ℕ) → Taken row (replicate 25 0) 0
 none-taken row = record { size = refl; each = λ q h. getD-replicate 25 q 0 0 h }
 
+-- a list with x added at p
 stored : (l : List ℕ) (p q x : ℕ) (b : Bool) → eqb p q ≡ b → q < length l → getD (set l p (getD l p 0 + x)) q 0 ≡ getD l q 0 + cond b x 0
 stored l p q x true e h = let same : p ≡ q = eqb-true p q e in rw same (getD-set-same l q (getD l q 0 + x) 0 h)
 stored l p q x false e h = getD-set-other l p q (getD l p 0 + x) 0 (λ z. eqb-false p q e (sym z)) ∙ omega arith
@@ -75,6 +77,7 @@ one-more row after i t =
       each = λ q h. rw (add-one i) (stored after (placeAt i) q x (eqb (placeAt i) q) refl (rw (t .size) h) ∙ ap (λ y. y + taken row q i) (t .each q h));
     }
 
+-- all 350 cells together make the next row
 pub all-taken : (row after : List ℕ) → Taken row after 350 → after ≡ nextRow row
 unfolding nextRow
 all-taken row after t =
@@ -98,4 +101,4 @@ sum-fits row after i t h = all-fit (λ p. getD row p 0) 25 i (getD after (placeA
     at-most false x = omega arith
 
     own : total (taken row (placeAt i)) i ≤ total (λ j. getD row (j / 14) 0) i
-    own = total-le (taken row (placeAt i)) (λ j. getD row (j / 14) 0) i (λ j. at-most (eqb (placeAt j) (placeAt i)) (getD row (j / 14) 0))
+    own = total-mono (taken row (placeAt i)) (λ j. getD row (j / 14) 0) i (λ j. at-most (eqb (placeAt j) (placeAt i)) (getD row (j / 14) 0))

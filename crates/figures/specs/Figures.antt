@@ -5,6 +5,7 @@ use lib.ListN.{length}
 use Rattle.transcript.specs.Lines.{line}
 use Rattle.transcript.specs.Text.{decimal}
 
+-- numbers as words
 abbrev pub figures : List ℕ → List (List ℕ)
 figures [] = []
 figures (x ∷ l) = decimal x ∷ figures l

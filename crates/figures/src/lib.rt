@@ -30,6 +30,7 @@ pub fn put_figures(out: &mut [u8], at: usize, first: u64, rest: &[u64]) -> usize
     ensures { λ r. ⌜ r ≡ endIn (roomFor (now (rest .entry))) (now (out .entry)) at (figuresLine first (now (rest .entry))) ⌝ }
     ensures { λ _. ⌜ now (out .exit) ≡ putIn (roomFor (now (rest .entry))) (now (out .entry)) at (figuresLine first (now (rest .entry))) ⌝ }
 {
+    // of more figures than this the product below could wrap
     if out.len() / WIDTH <= rest.len() {
         return at;
     }
