@@ -3,7 +3,7 @@ use mathlib.Core.Path.{_≡_, refl, sym, ap, _∙_}
 use mathlib.Core.Logic.{_≢_}
 use mathlib.Core.Bool.{Bool, true, false, cond, _&&_}
 use mathlib.Core.List.{List, [], _∷_, _++_, map}
-use Prim.Native.Nat.{ℕ, zero, suc, _<_, _≤_, _+_, _*_, _^_}
+use Prim.Native.Nat.{ℕ, zero, suc, _<_, _≤_, _+_, _^_}
 use native.Mathlib.Nat.{pow-succ'}
 use native.Mathlib.Omega.{arith}
 use lib.Dec.{eqb, ltb, eqb·zero-suc, eqb·suc-zero, eqb·suc-suc, lit<}
@@ -17,8 +17,8 @@ use Rattle.charts.specs.Modes.{placeOf}
 use Rattle.charts.specs.Signals.{classOf}
 use Rattle.charts.specs.Reception.{answer, hears}
 use Rattle.charts.specs.Table.{modeAt, entry}
-use Rattle.charts.specs.State.{total, allBelow}
-use Rattle.charts.specs.Sequences.{headed, sequences, leads, leading, ending, placesFrom, rowOf, row, same, times, ListsEach, LeavesThere, AddsUp, next, nextRow, Follows}
+use Rattle.charts.specs.State.{total, listFrom, allBelow}
+use Rattle.charts.specs.Sequences.{headed, sequences, leads, leading, ending, rowOf, row, same, times, ListsEach, LeavesThere, AddsUp, next, nextRow, Follows}
 use Rattle.charts.proofs.Tools.{by-test}
 use Rattle.charts.proofs.Places.{place-lt, key}
 use Rattle.charts.proofs.Sums.{total-agree, total-none, total-one, total-add, total-swap}
@@ -36,7 +36,7 @@ pub row-2 : row 2 ≡ 170 ∷ 0 ∷ 0 ∷ 0 ∷ 0 ∷ 13 ∷ 10 ∷ 0 ∷ 0 ∷ 
 unfolding row ending
 row-2 = refl
 
--- nothing is brought where there is nothing
+-- of nothing a test makes nothing
 none : (b : Bool) {x : ℕ} → x ≡ 0 → cond b x 0 ≡ 0
 none true e = e
 none false e = refl
@@ -121,21 +121,21 @@ forward (suc k) p q h =
     ∙ sym (next-agree _ _ q (λ r l. leading-headed p r 14 (sequences k)))
 
 -- a row's count at each of its places, and rows of equal counts
-places-at : (f : ℕ → ℕ) (n p q : ℕ) → q < n → getD (placesFrom n p f) q 0 ≡ f (p + q)
-places-at f zero p q h = absurd (omega arith)
-places-at f (suc n) p zero h = let e : p ≡ p + 0 = omega arith in ap f e
-places-at f (suc n) p (suc q) h = let e : suc p + q ≡ p + suc q = omega arith in places-at f n (suc p) q (omega arith) ∙ ap f e
+list-at : (f : ℕ → ℕ) (n i k : ℕ) → k < n → getD (listFrom f n i) k 0 ≡ f (i + k)
+list-at f zero i k h = absurd (omega arith)
+list-at f (suc n) i zero h = let e : i ≡ i + 0 = omega arith in ap f e
+list-at f (suc n) i (suc k) h = let e : suc i + k ≡ i + suc k = omega arith in list-at f n (suc i) k (omega arith) ∙ ap f e
 
 pub row-at : (f : ℕ → ℕ) (q : ℕ) → q < 25 → getD (rowOf f) q 0 ≡ f q
-row-at f q h = let e : 0 + q ≡ q = omega arith in places-at f 25 0 q h ∙ ap f e
+row-at f q h = let e : 0 + q ≡ q = omega arith in list-at f 25 0 q h ∙ ap f e
 
-places-agree : (f g : ℕ → ℕ) (n p : ℕ) → ((q : ℕ) → f q ≡ g q) → placesFrom n p f ≡ placesFrom n p g
-places-agree f g zero p h = refl
-places-agree f g (suc n) p h = rw (h p, places-agree f g n (suc p) h) refl
+list-agree : (f g : ℕ → ℕ) (n i : ℕ) → ((k : ℕ) → f k ≡ g k) → listFrom f n i ≡ listFrom g n i
+list-agree f g zero i h = refl
+list-agree f g (suc n) i h = rw (h i, list-agree f g n (suc i) h) refl
 
 pub follows : Follows
 unfolding row nextRow ending
-follows k = places-agree _ _ 25 0 (λ q. forward k P.rest q (lit< tt) ∙ next-agree _ _ q (λ p h. sym (row-at (ending k) p h)))
+follows k = list-agree _ _ 25 0 (λ q. forward k P.rest q (lit< tt) ∙ next-agree _ _ q (λ p h. sym (row-at (ending k) p h)))
 
 -- a sequence leads to where signals of its classes leave a node
 heard : (me label : ℕ) (m : Mode) (s : Signal) → placeOf (hears me label m s .mode) ≡ entry (placeOf m) (classOf me s) .place

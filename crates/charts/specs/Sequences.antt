@@ -13,7 +13,7 @@ use Rattle.charts.specs.Modes.{placeOf}
 use Rattle.charts.specs.Signals.{classOf}
 use Rattle.charts.specs.Reception.{hears}
 use Rattle.charts.specs.Table.{entry}
-use Rattle.charts.specs.State.{total, allBelow}
+use Rattle.charts.specs.State.{total, listFrom, allBelow}
 
 -- each of the first n classes before each of some sequences
 abbrev pub headed : ℕ → List (List ℕ) → List (List ℕ)
@@ -39,13 +39,9 @@ leading p q (s ∷ l) = cond (eqb (leads p s) q) 1 0 + leading p q l
 unfoldable pub ending : ℕ → ℕ → ℕ
 ending k q = leading P.rest q (sequences k)
 
--- "how many leave it in each of the 25 modes, in the table's order": f at n places from p on, and the row of k
-abbrev pub placesFrom : ℕ → ℕ → (ℕ → ℕ) → List ℕ
-placesFrom zero p f = []
-placesFrom (suc n) p f = f p ∷ placesFrom n (suc p) f
-
+-- "how many leave it in each of the 25 modes, in the table's order": f at the 25 places, and the row of k
 abbrev pub rowOf : (ℕ → ℕ) → List ℕ
-rowOf f = placesFrom 25 0 f
+rowOf f = listFrom f 25 0
 
 unfoldable pub row : ℕ → List ℕ
 row k = rowOf (ending k)
@@ -69,13 +65,13 @@ abbrev pub ListsEach : Type 0
 ListsEach = (k : ℕ) (s : List ℕ) → times s (sequences k) ≡ cond (isSequence k s) 1 0
 
 -- the mode in which some signals, one after the other, leave node `me`
-abbrev pub left : ℕ → ℕ → Mode → List Signal → Mode
-left me label m [] = m
-left me label m (s ∷ l) = left me label (hears me label m s .mode) l
+abbrev pub leftIn : ℕ → ℕ → Mode → List Signal → Mode
+leftIn me label m [] = m
+leftIn me label m (s ∷ l) = leftIn me label (hears me label m s .mode) l
 
 -- a sequence leads to where signals of its classes leave a node, whatever they carry and whatever the node remembers
 abbrev pub LeavesThere : Type 0
-LeavesThere = (me label : ℕ) (m : Mode) (l : List Signal) → placeOf (left me label m l) ≡ leads (placeOf m) (map (classOf me) l)
+LeavesThere = (me label : ℕ) (m : Mode) (l : List Signal) → placeOf (leftIn me label m l) ≡ leads (placeOf m) (map (classOf me) l)
 
 -- "each row adds up to 14 to the power k"
 abbrev pub AddsUp : Type 0

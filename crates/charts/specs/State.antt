@@ -87,6 +87,11 @@ abbrev pub every : (ℕ → Bool) → ℕ → Bool
 every f zero = true
 every f (suc n) = f n && every f n
 
+-- f at n numbers from i on, as a list
+abbrev pub listFrom : (ℕ → ℕ) → ℕ → ℕ → List ℕ
+listFrom f zero i = []
+listFrom f (suc n) i = f i ∷ listFrom f n (suc i)
+
 -- each number of a list is below b
 abbrev pub allBelow : List ℕ → ℕ → Bool
 allBelow [] b = true

@@ -1,13 +1,12 @@
 -- A line of figures, figure by figure. Assumes nothing.
 use mathlib.Core.Path.{_≡_, ap, sym, _∙_}
-use mathlib.Core.List.{List, [], _∷_, _++_, append-assoc, append-nil}
+use mathlib.Core.List.{List, [], _∷_, _++_, map, append-assoc, append-nil}
 use Prim.Native.Nat.{ℕ, _+_, _<_}
 use native.Mathlib.Numerals.{add-one}
 use lib.ListN.{length, take, getD}
 use lib.Seq.{take-suc}
 use Rattle.transcript.specs.Lines.{line}
 use Rattle.transcript.specs.Text.{decimal}
-use Rattle.figures.specs.Figures.{figures}
 
 -- figures, each after a space
 abbrev pub spaced : List ℕ → List ℕ
@@ -24,7 +23,7 @@ pub spaced-more : (l : List ℕ) (k : ℕ) → k < length l → (spaced (take k 
 spaced-more l k h =
     append-assoc (spaced (take k l)) (32 ∷ []) (decimal (getD l k 0)) ∙ sym (rw (add-one k, take-suc l k 0 h) (spaced-snoc (take k l) (getD l k 0)))
 
-pub line-spaced : (w l : List ℕ) → line (w ∷ figures l) ≡ (w ++ spaced l) ++ (10 ∷ [])
+pub line-spaced : (w l : List ℕ) → line (w ∷ map decimal l) ≡ (w ++ spaced l) ++ (10 ∷ [])
 line-spaced w [] = ap (λ (t : List ℕ). t ++ (10 ∷ [])) (sym (append-nil w))
 line-spaced w (x ∷ l) =
     ap (λ (t : List ℕ). w ++ (32 ∷ t)) (line-spaced (decimal x) l) ∙ sym (append-assoc w (spaced (x ∷ l)) (10 ∷ []))

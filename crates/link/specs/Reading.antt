@@ -1,7 +1,7 @@
 -- The reception chart's table as numbers, and what a node does with a signal by such a table.
 use mathlib.Core.Bool.{Bool, cond}
-use mathlib.Core.List.{List, [], _∷_}
-use Prim.Native.Nat.{ℕ, zero, suc, _+_, _*_, _/_, _%_}
+use mathlib.Core.List.{List}
+use Prim.Native.Nat.{ℕ, _+_, _*_, _/_, _%_}
 use lib.Dec.{eqb, leb}
 use lib.ListN.{getD}
 use Rattle.charts.specs.declared.Seen.the-variants as Sn
@@ -20,6 +20,7 @@ use Rattle.charts.specs.Words as W
 use Rattle.charts.specs.Signals.{classOf, headOf, datumOf, ackOf}
 use Rattle.charts.specs.Reception.{Reception, goes}
 use Rattle.charts.specs.Table.{entry}
+use Rattle.charts.specs.State.{listFrom}
 
 -- a cell as one number: the next mode's place, 32 times the number of the report's word, and 512 for a pending mark
 abbrev pub code : Entry → ℕ
@@ -39,13 +40,9 @@ pendsIn x = leb 512 x
 abbrev pub indexOf : ℕ → ℕ → ℕ
 indexOf p c = 14 * p + c
 
--- k cells of the table from index i on; all 350
-abbrev pub cellsFrom : ℕ → ℕ → List ℕ
-cellsFrom zero i = []
-cellsFrom (suc k) i = code (entry (i / 14) (i % 14)) ∷ cellsFrom k (suc i)
-
+-- all 350 cells, mode by mode
 unfoldable pub cells : List ℕ
-cells = cellsFrom 350 0
+cells = listFrom (λ i. code (entry (i / 14) (i % 14))) 350 0
 
 -- what a mode remembers of the signals that led to it
 abbrev pub remembered : Mode → Kept
