@@ -13,7 +13,7 @@ pub mod Open
 pub mod Books
 pub mod Drops
 pub mod Sequences
-pub mod Tally
+pub mod Counted
 pub mod Stretches
 pub mod Validity
 pub mod Asking
@@ -23,3 +23,5 @@ pub mod Cases
 pub mod Payload
 pub mod Answers
 pub mod Whole
+pub mod Chosen
+pub mod Settings

@@ -1,13 +1,13 @@
 -- Outside Idle some forward action is open: the decision of a node that is Asked; where none is, pass, grant or gap; on a Busy bus the clock of a holder, or its respond or request where the clock would be a filler.
 use mathlib.Core.Path.{_≡_, refl, sym, ap, subst, _∙_}
-use mathlib.Core.Logic.{_≢_}
+use mathlib.Core.Logic.{_≢_, _⊎_, inl, inr, ⊎-elim}
 use mathlib.Core.Bool.{Bool, true, false, cond, _&&_, _||_, not, true≢false}
 use mathlib.Core.List.{[], _∷_}
 use Prim.Native.Nat.{ℕ, suc, _<_}
 use lib.Dec.{eqb, ltb, leb}
 use borrow.Author.Tests.{eqb-true, lt-ltb}
 use Rattle.charts.specs.declared.Mode.{Mode}
-use Rattle.charts.specs.declared.Mode.the-variants.{Sending, Acking, Spurious}
+use Rattle.charts.specs.declared.Mode.the-variants.{Sending, Answering, Acking, Holding, Spurious}
 use Rattle.charts.specs.declared.Signal.{Signal}
 use Rattle.charts.specs.declared.Output.{Output}
 use Rattle.charts.specs.declared.Output.the-variants as O
@@ -26,7 +26,7 @@ use Rattle.charts.specs.declared.Action.{Action}
 use Rattle.charts.specs.declared.Decoded.the-variants.{Refused, Accepted}
 use Rattle.charts.specs.Numbers as N
 use Rattle.charts.specs.Modes as P
-use Rattle.charts.specs.Modes.{placeOf, isRest, isAnswering, isHolding, isAsked}
+use Rattle.charts.specs.Modes.{placeOf, isRest, isAnswering, isHolding, isSpurious, isAsked}
 use Rattle.charts.specs.Reception.{hears}
 use Rattle.charts.specs.Places.{stepIn, ackIn, holdIn}
 use Rattle.charts.specs.Outputs as Outputs
@@ -39,18 +39,21 @@ use Rattle.charts.specs.Signals.{noHead}
 use Rattle.charts.specs.Records.{isKind, namesNode, namesAddress, namesAnswer, namesPacket, clean, moveOf, read}
 use Rattle.charts.specs.Valid.{valid}
 use Rattle.charts.specs.Step.{someAsked, carryOut, about, comesTo, play, look, stepWith, step, isAccepted}
-use Rattle.charts.specs.Demand.{forward, isForward}
+use Rattle.charts.specs.Demand.{forward, isOpen, isForward}
+use Rattle.charts.specs.Trials.{strays}
+use Rattle.charts.specs.Settings.{HoldsAlone}
 use Rattle.charts.specs.Asking.{ofNode}
-use Rattle.charts.proofs.Tools.{never, clash, implies, implied, both, and-no, pick, none-of, lowest-of, lowest-lt, others-none, table-at, mem, mem-one, neither, or-yes, by-test}
+use Rattle.charts.proofs.Tools.{never, clash, implies, implied, and-true, both, and-no, pick, none-of, some-at, lowest-of, lowest-lt, others-none, table-at, mem, mem-one, neither, or-yes, by-test}
 use Rattle.charts.proofs.Places.{law-mode, active, stepOf, mode-is}
 use Rattle.charts.proofs.Stages.{turnAt, clearSteps, acting, BusyAt, talks, clears, Stage}
 use Rattle.charts.proofs.Reach.{Reach, answerers, is-talker}
 use Rattle.charts.proofs.Progress.{acting-step, odd-clear}
 
+-- an outcome that is not closed
 pub data Opens : Outcome → Type 0 where
   opens : {r : Report} {p : Phase} {c : Cell} {x : Marking} → Opens (does r p c x)
 
-open-when : (b : Bool) (o : Outcome) → b ≡ true → Opens o → Opens (when b o)
+pub open-when : (b : Bool) (o : Outcome) → b ≡ true → Opens o → Opens (when b o)
 open-when true o e x = x
 open-when false o e x = never e
 
@@ -85,13 +88,20 @@ module _ (s : State) (v : valid s ≡ true) where
   abbrev Found : Type 0
   Found = (a : Action) × (isForward s a ≡ true)
 
-  -- a record that is read as an open forward move is an open forward action
-  is-open : (a : Action) (m : Move) → moveOf a ≡ m → read (s .n) a ≡ Accepted m → Opens (comesTo s m) → forward s m ≡ true → Found
+  -- what a record that is read does
+  pub step-is : (a : Action) (m : Move) → read (s .n) a ≡ Accepted m → step s a ≡ carryOut s (about s m) (comesTo s m)
   unfolding step look play
-  is-open a m e q o f = (a, subst (λ d. isAccepted (stepWith s d) && forward s (moveOf a) ≡ true) (sym (ap (λ b. cond b (read (s .n) a) (Refused N.not-valid)) v ∙ q)) (subst (λ m′. isAccepted (play s m) && forward s m′ ≡ true) (sym e) (go (comesTo s m) o)))
+  step-is a m q = ap (stepWith s) (ap (λ b. cond b (read (s .n) a) (Refused N.not-valid)) v ∙ q)
+
+  -- one that is read as an open move is an open action; if the move is a forward one, a forward action
+  pub opens-it : (a : Action) (m : Move) → read (s .n) a ≡ Accepted m → Opens (comesTo s m) → isOpen s a ≡ true
+  opens-it a m q o = ap isAccepted (step-is a m q) ∙ go (comesTo s m) o
     where
-      go : (o : Outcome) → Opens o → isAccepted (carryOut s (about s m) o) && forward s m ≡ true
-      go o opens = f
+      go : (o : Outcome) → Opens o → isAccepted (carryOut s (about s m) o) ≡ true
+      go o opens = refl
+
+  is-open : (a : Action) (m : Move) → moveOf a ≡ m → read (s .n) a ≡ Accepted m → Opens (comesTo s m) → forward s m ≡ true → Found
+  is-open a m e q o f = (a, both _ _ (opens-it a m q o) (ap (forward s) e ∙ f))
 
   read-request : (i : ℕ) → i < s .n → read (s .n) (toAll i) ≡ Accepted (Request i (nothing-to 63))
   unfolding read clean moveOf
@@ -109,7 +119,7 @@ module _ (s : State) (v : valid s ≡ true) where
       go (Full p) f = pick Opens (isIdle (s .phase) && not (s .cell i .won)) _ _ opens opens
 
   -- a move that waits for nodes that are Asked, where none is
-  open-now : someAsked s ≡ false → (o : Outcome) → Opens o → Opens (when (not (someAsked s)) o)
+  pub open-now : someAsked s ≡ false → (o : Outcome) → Opens o → Opens (when (not (someAsked s)) o)
   open-now u o x = open-when _ o (ap not u) x
 
   -- a node below n that holds the bus; unless it is spurious, it alone
@@ -129,9 +139,10 @@ module _ (s : State) (v : valid s ≡ true) where
       acks-open : (k a : ℕ) (b : Bool) → Clocks (Outputs.acks k a b)
       acks-open k a b = pick Clocks (eqb k 0) _ _ (puts-open _ _ _) (pick Clocks (eqb k 1) _ _ (puts-open _ _ _) (pick Clocks b _ _ (puts-open _ _ _) (puts-open _ _ _)))
 
-    clock-opens : mem (placeOf (s .cell i .mode)) (P.sending ∷ P.acking ∷ P.spurious ∷ []) ≡ true → Clocks (output i (s .cell i .mode) (s .cell i .sending))
+    -- its clock is open
+    pub clock-opens : active (placeOf (s .cell i .mode)) ≡ true → Clocks (output i (s .cell i .mode) (s .cell i .sending))
     unfolding output
-    clock-opens t = go (eqb (placeOf m) P.sending) (eqb (placeOf m) P.acking) refl refl t
+    clock-opens t = go (eqb (placeOf m) P.sending) (eqb (placeOf m) P.answering) (eqb (placeOf m) P.acking) (eqb (placeOf m) P.holding) refl refl refl refl t
       where
         m : Mode
         m = s .cell i .mode
@@ -139,10 +150,16 @@ module _ (s : State) (v : valid s ≡ true) where
         is : (m′ : Mode) → m ≡ m′ → Clocks (output i m′ (s .cell i .sending)) → Clocks (output i m (s .cell i .sending))
         is m′ e x = subst (λ m. Clocks (output i m (s .cell i .sending))) (sym e) x
 
-        go : (b c : Bool) → eqb (placeOf m) P.sending ≡ b → eqb (placeOf m) P.acking ≡ c → b || (c || (eqb (placeOf m) P.spurious || false)) ≡ true → Clocks (output i m (s .cell i .sending))
-        go true c p q t = is (Sending (stepIn m)) (mode-is m P.sending (eqb-true (placeOf m) P.sending p)) (sends-open (sole (ap (λ p. eqb p P.spurious) (eqb-true (placeOf m) P.sending p))) (stepIn m) (s .cell i .sending))
-        go false true p q t = is (Acking (stepIn m) (ackIn m) (holdIn m)) (mode-is m P.acking (eqb-true (placeOf m) P.acking q)) (acks-open (sole (ap (λ p. eqb p P.spurious) (eqb-true (placeOf m) P.acking q))) (stepIn m) (ackIn m) (holdIn m))
-        go false false p q t = is Spurious (mode-is m P.spurious (mem-one P.spurious (placeOf m) t)) (open-when (s .cell i .holder) _ h opens)
+        alone : (m′ : Mode) → m ≡ m′ → eqb (placeOf m′) P.spurious ≡ false → others (holders (s .cell)) i (s .n) ≡ false
+        alone m′ e q = sole (ap (λ m. eqb (placeOf m) P.spurious) e ∙ q)
+
+        go : (b c d f : Bool) → eqb (placeOf m) P.sending ≡ b → eqb (placeOf m) P.answering ≡ c → eqb (placeOf m) P.acking ≡ d → eqb (placeOf m) P.holding ≡ f →
+            b || (c || (d || (f || (eqb (placeOf m) P.spurious || false)))) ≡ true → Clocks (output i m (s .cell i .sending))
+        go true c d f p q u w t = let e = mode-is m P.sending (eqb-true (placeOf m) P.sending p) in is (Sending (stepIn m)) e (sends-open (alone (Sending (stepIn m)) e refl) (stepIn m) (s .cell i .sending))
+        go false true d f p q u w t = let e = mode-is m P.answering (eqb-true (placeOf m) P.answering q) in is Answering e (puts-open (alone Answering e refl) _ _ _)
+        go false false true f p q u w t = let e = mode-is m P.acking (eqb-true (placeOf m) P.acking u) in is (Acking (stepIn m) (ackIn m) (holdIn m)) e (acks-open (alone (Acking (stepIn m) (ackIn m) (holdIn m)) e refl) (stepIn m) (ackIn m) (holdIn m))
+        go false false false true p q u w t = let e = mode-is m P.holding (eqb-true (placeOf m) P.holding w) in is Holding e (puts-open (alone Holding e refl) _ _ _)
+        go false false false false p q u w t = is Spurious (mode-is m P.spurious (mem-one P.spurious (placeOf m) t)) (open-when (s .cell i .holder) _ h opens)
 
     -- its forward action: a request in Holding, a respond in Answering, else its clock
     holder-opens : someAsked s ≡ false → s .phase ≡ Busy → active (placeOf (s .cell i .mode)) ≡ true → Found
@@ -152,10 +169,7 @@ module _ (s : State) (v : valid s ≡ true) where
         go : (x y : Bool) → isHolding (s .cell i .mode) ≡ x → isAnswering (s .cell i .mode) ≡ y → Found
         go true y p q = is-open (toAll i) (Request i (nothing-to 63)) refl (read-request i l) (pick Opens (isRest (s .cell i .mode) && isEmpty (s .cell i .buffer)) _ _ opens (open-when (isHolding (s .cell i .mode)) _ p opens)) p
         go false true p q = is-open (ofNode 3 i) (Respond i 0 false) refl (read-named (s .n) 3 i refl refl refl l) (open-when (isAnswering (s .cell i .mode) && mayAnswer (s .concatenated) false) _ (both _ _ q (ap not (and-no (s .concatenated)))) opens) refl
-        go false false p q = is-open (ofNode 4 i) (Clock i) refl (read-named (s .n) 4 i refl refl refl l) (open-now u _ (open-when (isBusy (s .phase)) _ (ap isBusy b) (clock-opens t))) (ap not (neither _ _ q p))
-          where
-            t : mem (placeOf (s .cell i .mode)) (P.sending ∷ P.acking ∷ P.spurious ∷ []) ≡ true
-            t = implied _ _ (implied _ _ (implied (active (placeOf (s .cell i .mode))) _ (law-mode (λ p. implies (active p) (implies (not (eqb p P.holding)) (implies (not (eqb p P.answering)) (mem p (P.sending ∷ P.acking ∷ P.spurious ∷ []))))) tt (s .cell i .mode)) e) (ap not p)) (ap not q)
+        go false false p q = is-open (ofNode 4 i) (Clock i) refl (read-named (s .n) 4 i refl refl refl l) (open-now u _ (open-when (isBusy (s .phase)) _ (ap isBusy b) (clock-opens e))) (ap not (neither _ _ q p))
 
   module _ (r : Reach s) (one : (j k : ℕ) → j < s .n → k < s .n → mem (placeOf (s .cell j .mode)) answerers ≡ true → mem (placeOf (s .cell k .mode)) answerers ≡ true → j ≡ k) where
     abbrev stray : ℕ → Bool
@@ -169,34 +183,41 @@ module _ (s : State) (v : valid s ≡ true) where
         go k l q true e = absurd (q (u k l e))
         go k l q false e = refl
 
-    busy-opens : someAsked s ≡ false → s .phase ≡ Busy → BusyAt (s .concatenated) (s .n) (s .cell) → Found
-    busy-opens u b (talks a) = holder-opens (a .w) (a .here) (r .marks (a .w) .1 ∙ e) (λ z. sole-holder (a .w) (is-talker (s .concatenated) (s .n) (s .cell) a)) u b e
+    alone : (i : ℕ) → i < s .n → active (placeOf (s .cell i .mode)) ≡ true → isSpurious (s .cell i .mode) ≡ false → ((k : ℕ) → k < s .n → active (placeOf (s .cell k .mode)) ≡ true → k ≡ i) → HoldsAlone s
+    alone i l e z u = record { node = i; here = l; holds = r .marks i .1 ∙ e; alone = sole-holder i u; mode =
+      implied _ _ (implied (active (placeOf (s .cell i .mode))) _ (law-mode (λ p. implies (active p) (implies (not (eqb p P.spurious)) (eqb p P.sending || (eqb p P.answering || (eqb p P.acking || eqb p P.holding))))) tt (s .cell i .mode)) e) (ap not z) }
+
+    stray-at : (i : ℕ) → i < s .n → isSpurious (s .cell i .mode) ≡ true → some (strays s) (s .n) ≡ true
+    stray-at i l z = some-at (strays s) (s .n) i l (both _ _ (r .marks i .1 ∙ ap active (eqb-true (placeOf (s .cell i .mode)) P.spurious z)) z)
+
+    -- who holds a Busy bus
+    pub busy-held : BusyAt (s .concatenated) (s .n) (s .cell) → (some (strays s) (s .n) ≡ true) ⊎ HoldsAlone s
+    busy-held (talks a) = by-test (isSpurious (s .cell (a .w) .mode)) (λ z. inl (stray-at (a .w) (a .here) z)) (λ z. inr (alone (a .w) (a .here) e z (is-talker (s .concatenated) (s .n) (s .cell) a)))
       where
         e : active (placeOf (s .cell (a .w) .mode)) ≡ true
         e = acting-step (s .cell (a .w) .mode) (ap (λ c. leb 30 c || active c) (a .talker) ∙ table-at (λ t. leb 30 (turnAt t .step) || active (turnAt t .step)) 17 tt (a .t) (a .t-lt))
-    busy-opens u b (clears a) = go (some stray (s .n)) refl
+    busy-held (clears a) = by-test (some stray (s .n)) (λ q. inl (stray-at (lowest stray (s .n) 0) (lowest-lt stray (s .n) 0 q) (lowest-of stray (s .n) 0 q))) (λ q. inr (alone i l e (none-of stray (s .n) q i l) (λ k m u. one k i m l (answers q k m u) (answers q i l e))))
       where
-        go : (x : Bool) → some stray (s .n) ≡ x → Found
-        go true q = holder-opens i (lowest-lt stray (s .n) 0 q) (r .marks i .1 ∙ e) (λ z. clash _ (lowest-of stray (s .n) 0 q) z) u b e
-          where
-            i : ℕ
-            i = lowest stray (s .n) 0
+        i : ℕ
+        i = lowest (acting (s .cell)) (s .n) 0
 
-            e : active (placeOf (s .cell i .mode)) ≡ true
-            e = ap active (eqb-true (placeOf (s .cell i .mode)) P.spurious (lowest-of stray (s .n) 0 q))
-        go false q = holder-opens i l (r .marks i .1 ∙ e) (λ z. sole-holder i (λ k m u. one k i m l (answers k m u) (answers i l e))) u b e
-          where
-            i : ℕ
-            i = lowest (acting (s .cell)) (s .n) 0
+        l : i < s .n
+        l = lowest-lt (acting (s .cell)) (s .n) 0 (a .acts)
 
-            l : i < s .n
-            l = lowest-lt (acting (s .cell)) (s .n) 0 (a .acts)
+        e : active (placeOf (s .cell i .mode)) ≡ true
+        e = lowest-of (acting (s .cell)) (s .n) 0 (a .acts)
 
-            e : active (placeOf (s .cell i .mode)) ≡ true
-            e = lowest-of (acting (s .cell)) (s .n) 0 (a .acts)
+        answers : some stray (s .n) ≡ false → (k : ℕ) → k < s .n → active (placeOf (s .cell k .mode)) ≡ true → mem (placeOf (s .cell k .mode)) answerers ≡ true
+        answers q k m u = clear-answers (s .cell k .mode) (a .steps k m) u (none-of stray (s .n) q k m)
 
-            answers : (k : ℕ) → k < s .n → active (placeOf (s .cell k .mode)) ≡ true → mem (placeOf (s .cell k .mode)) answerers ≡ true
-            answers k m u = clear-answers (s .cell k .mode) (a .steps k m) u (none-of stray (s .n) q k m)
+    busy-opens : someAsked s ≡ false → s .phase ≡ Busy → BusyAt (s .concatenated) (s .n) (s .cell) → Found
+    busy-opens u b a = ⊎-elim stray-opens (λ h. holder-opens (h .node) (h .here) (h .holds) (λ z. h .alone) u b (sym (r .marks (h .node) .1) ∙ h .holds)) (busy-held a)
+      where
+        stray-opens : some (strays s) (s .n) ≡ true → Found
+        stray-opens q =
+            let i = lowest (strays s) (s .n) 0 in
+            let z = and-true (s .cell i .holder) _ (lowest-of (strays s) (s .n) 0 q) in
+            holder-opens i (lowest-lt (strays s) (s .n) 0 q) (z .0) (λ x. clash _ (z .1) x) u b (sym (r .marks i .1) ∙ z .0)
 
     -- outside Idle a forward action is open
     pub some-open : isIdle (s .phase) ≡ false → Found

@@ -31,7 +31,7 @@ use Rattle.charts.proofs.Ways.{Effect, waits, replies}
 use Rattle.charts.proofs.Steps as Steps
 use Rattle.charts.proofs.Steps.{Stepped, acts, stepped, step-n}
 use Rattle.charts.proofs.Books.{Of, nothing, names, event-names}
-use Rattle.charts.proofs.Tally.{was-right, keeps-confirmed}
+use Rattle.charts.proofs.Counted.{was-right, keeps-confirmed}
 
 -- 1. WHAT AN EVENT CAN BE
 -- a move that no book and no stretch looks at

@@ -131,7 +131,7 @@ is-idle (Delivering w g j) e = never e
 is-idle Granting e = never e
 is-idle (Gapping j) e = never e
 
-is-busy : (p : Phase) → isBusy p ≡ true → p ≡ Busy
+pub is-busy : (p : Phase) → isBusy p ≡ true → p ≡ Busy
 is-busy Idle e = never e
 is-busy Busy e = refl
 is-busy (Delivering w g j) e = never e

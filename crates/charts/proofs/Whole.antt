@@ -17,19 +17,20 @@ use Rattle.charts.specs.Demand.{Book, newBook, enters, bookOf, final, hi
 use Rattle.charts.specs.Stretch.{EveryConfirmation}
 use Rattle.charts.specs.Replies.{OneReply}
 use Rattle.charts.specs.Asking.{AskedFull}
+use Rattle.charts.specs.Settings.{BusyHeld}
 use Rattle.charts.proofs.Places.{mode-is, resting}
 use Rattle.charts.proofs.Tools.{mem, mem-two}
-use Rattle.charts.proofs.Ways.{is-idle}
+use Rattle.charts.proofs.Ways.{is-idle, is-busy}
 use Rattle.charts.proofs.Steps.{Stepped, refused, acts, stepped, run-n}
 use Rattle.charts.proofs.Stages.{IdleAt, Stage}
 use Rattle.charts.proofs.Reach.{Reach, start}
 use Rattle.charts.proofs.Progress.{effect-reach}
 use Rattle.charts.proofs.Ends.{meets}
 use Rattle.charts.proofs.Replies.{at-most-one}
-use Rattle.charts.proofs.Open.{some-open}
+use Rattle.charts.proofs.Open.{some-open, busy-held}
 use Rattle.charts.proofs.Validity.{run-valid}
 use Rattle.charts.proofs.Books.{Kept, books-kept, fresh-kept, none-runs, resting-ours}
-use Rattle.charts.proofs.Tally.{counted, once}
+use Rattle.charts.proofs.Counted.{counted, once}
 use Rattle.charts.proofs.Payload.{Carry, fresh-carry, carries, one-responder}
 use Rattle.charts.proofs.Answers.{Heed, fresh-heed, heeds}
 use Rattle.charts.proofs.Stretches.{every-confirmation}
@@ -99,3 +100,8 @@ module _ (n : ℕ) (two : 2 ≤ n) (small : n ≤ 63) (l : List Action) where
   -- and nodes that are Asked
   pub asked-full-of : AskedFull n l
   asked-full-of = whole .reached .ready
+
+  -- and who holds a Busy bus
+  pub busy-held-of : BusyHeld n l
+  busy-held-of e = busy-held (final n l) (run-valid n two (omega arith) l) (whole .reached) (one-responder (whole .packet) (final n l) (whole .carried))
+      (subst (λ p. Stage (final n l .concatenated) p (final n l .n) (final n l .cell)) (is-busy (final n l .phase) e) (whole .reached .stage))

@@ -19,3 +19,5 @@ pub mod Stretch
 pub mod Replies
 pub mod Asking
 pub mod Sequences
+pub mod Trials
+pub mod Settings

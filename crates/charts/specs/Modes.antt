@@ -133,6 +133,9 @@ isOwed m = eqb (placeOf m) owed
 abbrev pub isTold : Mode → Bool
 isTold m = eqb (placeOf m) told
 
+abbrev pub isSending : Mode → Bool
+isSending m = eqb (placeOf m) sending
+
 abbrev pub isAnswering : Mode → Bool
 isAnswering m = eqb (placeOf m) answering
 
@@ -144,3 +147,6 @@ isHolding m = eqb (placeOf m) holding
 
 abbrev pub isAsked : Mode → Bool
 isAsked m = eqb (placeOf m) asked
+
+abbrev pub isSpurious : Mode → Bool
+isSpurious m = eqb (placeOf m) spurious

@@ -2,7 +2,7 @@
 -- "The first four are line signals."
 use mathlib.Core.Bool.{Bool, cond, not, _&&_}
 use Prim.Native.Nat.{ℕ}
-use lib.Dec.{eqb, ltb}
+use lib.Dec.{eqb, ltb, leb}
 use Rattle.charts.specs.declared.Head.{Head}
 use Rattle.charts.specs.declared.Signal.{Signal}
 use Rattle.charts.specs.declared.Signal.the-variants.{Start, End, Prefix, Gap, Dhead, Dest, Header, Data, Ack}
@@ -93,6 +93,10 @@ isEnd s = eqb (kindOf s) 1
 
 abbrev pub isPrefix : Signal → Bool
 isPrefix s = eqb (kindOf s) 2
+
+-- Header, Data or Ack: a signal that bears a check
+abbrev pub isChecked : Signal → Bool
+isChecked s = leb 6 (kindOf s)
 
 -- what a Header carries, request 3's label "inside" it (no other signal is asked for it)
 abbrev pub noHead : Head

@@ -234,3 +234,32 @@ pub struct Begun {
     pub number: u8,
     pub bus: Bus,
 }
+
+// A user's settings in a load trial: its idle spell after a win in actions, the address that it sends to, the fillers before it answers, whether it holds,
+// and which of the signals that come to it are lost (each so many-th, 0: none).
+pub struct User {
+    pub spell: u8,
+    pub address: u8,
+    pub fillers: u8,
+    pub hold: bool,
+    pub period: u8,
+}
+
+// The settings of all nodes, one array for each; those of nodes from n on are not read.
+pub struct Users {
+    pub spell: [u8; 63],
+    pub address: [u8; 63],
+    pub fillers: [u8; 63],
+    pub hold: [bool; 63],
+    pub period: [u8; 63],
+}
+
+// What a trial counts: requests, wins, each kind of confirmation, drops.
+pub struct Tally {
+    pub requests: u16,
+    pub wins: u16,
+    pub sent: u16,
+    pub acks: u16,
+    pub misses: u16,
+    pub drops: u16,
+}
