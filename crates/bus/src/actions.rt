@@ -38,20 +38,11 @@ use charts::Report;
 use charts::Signal;
 use charts::Way;
 
-fn is_empty(buffer: Buffer) -> bool
-    ensures { λ r. ⌜ r ≡ isEmpty buffer ⌝ }
-{
-    match buffer {
-        Buffer::Empty => true,
-        Buffer::Full(_) => false,
-    }
-}
-
 // "in Rest with an empty buffer"
 fn is_free(mode: Mode, buffer: Buffer) -> bool
     ensures { λ r. ⌜ r ≡ (isRest mode && isEmpty buffer) ⌝ }
 {
-    bools::both(link::modes::is_rest(mode), is_empty(buffer))
+    bools::both(link::modes::is_rest(mode), cells::is_empty(buffer))
 }
 
 // The node starts to send a packet.
@@ -528,7 +519,7 @@ pub(crate) fn ask(phase: Phase, c: Cell) -> Plan
     if !link::modes::is_rest(mode) {
         return plans::closed(phase, c);
     }
-    if is_empty(buffer) {
+    if cells::is_empty(buffer) {
         return plans::closed(phase, c);
     }
     plans::quietly(phase, cells::set_mode(Mode::Asked, c))

@@ -20,7 +20,7 @@ fn one_if_asked(mode: Mode) -> u8
 }
 
 // The nodes below n that have a place in the arrays.
-fn places(n: u8) -> u8
+pub fn places(n: u8) -> u8
     ensures { λ r. ⌜ r ≡ places n ⌝ }
     ensures { λ r. ⌜ r ≤ 63 ⌝ }
 {

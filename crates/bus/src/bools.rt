@@ -2,13 +2,13 @@
 ghost use mathlib.Core.Path.{_≡_};
 ghost use mathlib.Core.Bool.{_&&_, _||_};
 
-pub(crate) fn both(p: bool, q: bool) -> bool
+pub fn both(p: bool, q: bool) -> bool
     ensures { λ r. ⌜ r ≡ (p && q) ⌝ }
 {
     if p { q } else { false }
 }
 
-pub(crate) fn either(p: bool, q: bool) -> bool
+pub fn either(p: bool, q: bool) -> bool
     ensures { λ r. ⌜ r ≡ (p || q) ⌝ }
 {
     if p { true } else { q }

@@ -1,6 +1,6 @@
 // A node's record with its four marks: taken together, taken apart, and with one field set.
 ghost use mathlib.Core.Path.{_≡_};
-ghost use Rattle.charts.specs.State.{setMode, setBuffer, setSending, setWon, setPending, setHolder, setMisled};
+ghost use Rattle.charts.specs.State.{isEmpty, setMode, setBuffer, setSending, setWon, setPending, setHolder, setMisled};
 ghost use Rattle.charts.specs.Actions.{labelOf};
 ghost use Rattle.charts.specs.View.{cellOf};
 use charts::Buffer;
@@ -118,4 +118,13 @@ pub(crate) fn set_misled(misled: bool, c: Cell) -> Cell
     let mut d = c;
     d.misled = misled;
     d
+}
+
+pub fn is_empty(buffer: Buffer) -> bool
+    ensures { λ r. ⌜ r ≡ isEmpty buffer ⌝ }
+{
+    match buffer {
+        Buffer::Empty => true,
+        Buffer::Full(_) => false,
+    }
 }

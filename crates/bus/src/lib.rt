@@ -27,11 +27,11 @@ use charts::Played;
 
 mod actions;
 pub mod asking;
-mod bools;
+pub mod bools;
 pub mod cells;
 mod decide;
 mod marks;
-mod phases;
+pub mod phases;
 pub mod plans;
 mod validity;
 

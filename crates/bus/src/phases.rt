@@ -4,7 +4,7 @@ ghost use Rattle.charts.specs.State.{isIdle, isBusy, isGranting};
 ghost use Rattle.charts.specs.Actions.{nextOf};
 use charts::Phase;
 
-pub(crate) fn is_idle(phase: Phase) -> bool
+pub fn is_idle(phase: Phase) -> bool
     ensures { λ r. ⌜ r ≡ isIdle phase ⌝ }
 {
     match phase {

@@ -24,6 +24,7 @@ use Rattle.charts.specs.declared.Move.the-variants.{Request, Arbitrate, 
 use Rattle.charts.specs.declared.Action.{Action}
 use Rattle.charts.specs.declared.Decoded.the-variants.{Refused, Accepted}
 use Rattle.charts.specs.declared.User.{User}
+use Rattle.charts.specs.declared.Kept.{Kept}
 use Rattle.charts.specs.Numbers as N
 use Rattle.charts.specs.Modes as P
 use Rattle.charts.specs.Modes.{placeOf, isRest, isAnswering, isHolding, isSpurious}
@@ -38,9 +39,9 @@ use Rattle.charts.specs.Valid.{valid}
 use Rattle.charts.specs.Step.{someAsked, carryOut, isAccepted, step}
 use Rattle.charts.specs.Asking.{ofNode}
 use Rattle.charts.specs.Demand.{isOpen, one}
-use Rattle.charts.specs.Trials.{Kept, Load, requestBy, respondBy, isDue, delivers, strays, holderOf, holdsNow, acts, isOver, asking, bidding, asker, starts, chooses, choice, onlyWaits, least, lefts, waits, lowered, waited}
+use Rattle.charts.specs.Trials.{Load, requestBy, respondBy, isDue, delivers, strays, holderOf, holdsNow, acts, isOver, asking, bidding, asker, starts, chooses, choice, onlyWaits, least, lefts, waits, lowered, waited}
 use Rattle.charts.specs.Settings.{HoldsAlone, HeldIfBusy}
-use Rattle.charts.proofs.Tools.{never, clash, implies, implied, and-true, both, or-false, or-true, and-no, pick, pick-by, by-test, below-suc, none-of, some-at, some-agree, lowest-of, lowest-lt, others-off, or-yes}
+use Rattle.charts.proofs.Tools.{never, clash, implies, implied, and-true, both, or-false, or-true, and-no, pick, pick-by, by-test, below-suc, none-of, some-at, some-agree, lowest-none, lowest-of, lowest-lt, others-off, or-yes}
 use Rattle.charts.proofs.Places.{law-mode, active}
 use Rattle.charts.proofs.Open.{Opens, opens, open-when, open-now, step-is, opens-it, read-named, clock-opens}
 
@@ -78,10 +79,6 @@ chosen-by us l = go (l .state .phase) refl
     go (Gapping j) e = gaps e
 
 -- 2. the holder that acts on a Busy bus
-lowest-none : (f : ℕ → Bool) (n d : ℕ) → some f n ≡ false → lowest f n d ≡ d
-lowest-none f zero d e = refl
-lowest-none f (suc n) d e = let z = or-false (f n) _ e in ap (λ b. lowest f n (cond b n d)) (z .0) ∙ lowest-none f n d (z .1)
-
 lowest-only : (f : ℕ → Bool) (n i : ℕ) → i < n → f i ≡ true → others f i n ≡ false → lowest f n 0 ≡ i
 lowest-only f n i l e o = by-test (eqb k i) (eqb-true k i) (λ q. clash _ (lowest-of f n 0 t) (others-off f n i o k (lowest-lt f n 0 t) (λ z. clash (eqb k i) (eq-eqb k i z) q)))
   where

@@ -23,6 +23,7 @@ use Rattle.charts.specs.declared.Way.the-variants.{Pass}
 use Rattle.charts.specs.declared.Move.{Move}
 use Rattle.charts.specs.declared.Move.the-variants.{Request, Respond, Clock, Carry, Grant, GapNext, Decide}
 use Rattle.charts.specs.declared.Action.{Action}
+use Rattle.charts.specs.declared.Decoded.{Decoded}
 use Rattle.charts.specs.declared.Decoded.the-variants.{Refused, Accepted}
 use Rattle.charts.specs.Numbers as N
 use Rattle.charts.specs.Modes as P
@@ -45,6 +46,7 @@ use Rattle.charts.specs.Settings.{HoldsAlone}
 use Rattle.charts.specs.Asking.{ofNode}
 use Rattle.charts.proofs.Tools.{never, clash, implies, implied, and-true, both, and-no, pick, none-of, some-at, lowest-of, lowest-lt, others-none, table-at, mem, mem-one, neither, or-yes, by-test}
 use Rattle.charts.proofs.Places.{law-mode, active, stepOf, mode-is}
+use Rattle.charts.proofs.Steps.{Decodes, turned, taken, decodes}
 use Rattle.charts.proofs.Stages.{turnAt, clearSteps, acting, BusyAt, talks, clears, Stage}
 use Rattle.charts.proofs.Reach.{Reach, answerers, is-talker}
 use Rattle.charts.proofs.Progress.{acting-step, odd-clear}
@@ -232,3 +234,13 @@ module _ (s : State) (v : valid s ≡ true) where
         go u (Delivering w g j) q a e = is-open (ofNode 5 0) (Carry Pass) refl refl (open-now u _ (subst (λ p. Opens (Actions.carry hears (s .n) p (s .cell (Actions.nextOf p)) (pendings (s .cell)) Pass)) (sym q) opens)) refl
         go u Granting q a e = is-open (ofNode 8 0) Grant refl refl (open-now u _ (open-when (isGranting (s .phase)) _ (ap isGranting q) (pick Opens (some (pendings (s .cell)) (s .n)) _ _ opens opens))) refl
         go u (Gapping j) q a e = is-open (ofNode 9 0) GapNext refl refl (open-now u _ (subst (λ p. Opens (Actions.gap hears (s .n) p (s .cell (Actions.nextOf p)))) (sym q) (pick Opens (ltb (suc j) (s .n)) _ _ opens opens))) refl
+
+-- what is open is read as the record's move
+pub open-reads : (s : State) (a : Action) → isOpen s a ≡ true → read (s .n) a ≡ Accepted (moveOf a)
+unfolding step look
+open-reads s a e = by-test (valid s) (λ v. go (read (s .n) a) refl (decodes (s .n) a) (sym (ap (λ b. isAccepted (stepWith s (cond b (read (s .n) a) (Refused N.not-valid)))) v) ∙ e))
+    (λ v. never (sym (ap (λ b. isAccepted (stepWith s (cond b (read (s .n) a) (Refused N.not-valid)))) v) ∙ e))
+  where
+    go : (d : Decoded) → read (s .n) a ≡ d → Decodes (s .n) a d → isAccepted (stepWith s d) ≡ true → read (s .n) a ≡ Accepted (moveOf a)
+    go (Refused k) q (turned z) f = clash _ f z
+    go (Accepted m) q (taken k) f = q

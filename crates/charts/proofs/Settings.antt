@@ -16,6 +16,7 @@ use Rattle.charts.specs.declared.Marking.the-variants as M
 use Rattle.charts.specs.declared.Report.the-variants.{Won}
 use Rattle.charts.specs.declared.Action.{Action}
 use Rattle.charts.specs.declared.User.{User}
+use Rattle.charts.specs.declared.Kept.{Kept}
 use Rattle.charts.specs.declared.Tally.{Tally}
 use Rattle.charts.specs.Modes.{isRest, isAnswering, isHolding, isAsked}
 use Rattle.charts.specs.Signals.{isChecked}
@@ -26,9 +27,9 @@ use Rattle.charts.specs.Valid.{valid}
 use Rattle.charts.specs.Step.{Result, Event, someAsked, step, after, events, eventOf}
 use Rattle.charts.specs.Asking.{ofNode}
 use Rattle.charts.specs.Demand.{isOpen, one, final}
-use Rattle.charts.specs.Trials.{Kept, Load, requestBy, respondBy, isDue, delivers, holderOf, holdsNow, isOver, asking, bidding, asker, choice, onlyWaits, least, lefts, waits, waited, isCarried, checkedTo, came, rises, heardAfter, isOf, fills, filledAfter, wonBy, leftAfter, follows, turned, loadAfter, chosen, trial, counted, tallyOn}
+use Rattle.charts.specs.Trials.{Load, requestBy, respondBy, isDue, delivers, holderOf, holdsNow, isOver, asking, bidding, asker, choice, onlyWaits, least, lefts, waits, waited, isCarried, checkedTo, came, rises, heardAfter, isOf, fills, filledAfter, wonBy, leftAfter, follows, turned, loadAfter, chosen, trial, counted, tallyOn}
 use Rattle.charts.specs.Settings.{HeldIfBusy, Turn, turnAt, turns, kindOf, nodeOf, reportOf, isPast, fillersOf, cameTo, Keeps, KeepsSettings, IsTrial}
-use Rattle.charts.proofs.Tools.{never, clash, and-true, both, or-false, or-true, and-no, and-yes, pick, pick-by, by-test, at-upd, none-of, some-agree, lowest-of, lowest-lt}
+use Rattle.charts.proofs.Tools.{never, clash, and-true, both, or-false, or-true, and-no, and-yes, pick, pick-by, by-test, at-upd, none-of, some-none, lowest-of, lowest-lt}
 use Rattle.charts.proofs.Steps.{Stepped, refused, stepped, step-n, run-n}
 use Rattle.charts.proofs.Steps as Steps
 use Rattle.charts.proofs.Askers.{isAsk}
@@ -100,10 +101,6 @@ not-asks us l a (clocks q e f) = refl
 not-asks us l a (asks q t) = refl
 not-asks us l a (bids q e t) = refl
 not-asks us l a (resets q e f) = refl
-
-some-none : (f : ℕ → Bool) (n : ℕ) → ((k : ℕ) → k < n → f k ≡ false) → some f n ≡ false
-some-none f zero h = refl
-some-none f (suc n) h = ap₂ _||_ (h n (omega arith)) (some-none f n (λ k l. h k (omega arith)))
 
 module _ (us : ℕ → User) (n : ℕ) (two : 2 ≤ n) (small : n ≤ 63) (fine : (k : ℕ) → k < n → isAddress n (us k .address) ≡ true) where
   abbrev load : ℕ → Load
@@ -181,7 +178,7 @@ came-due us l i a (bids q f t) e = never e
 came-due us l i a (resets q f g) e = never e
 
 -- a node that is clocked in Answering has not made all its fillers
-fills-short : (us : ℕ → User) (l : Load) (i : ℕ) (a : Action) → Chosen us l a → fills i (l .state) a ≡ true → l .kept i .filled ≢ us i .fillers
+pub fills-short : (us : ℕ → User) (l : Load) (i : ℕ) (a : Action) → Chosen us l a → fills i (l .state) a ≡ true → l .kept i .filled ≢ us i .fillers
 fills-short us l i a (carries {g = g} {j = j} q) e = never (sym (pick (λ k. eqb k 4 && eqb i 0 && isAnswering (l .state .cell i .mode) ≡ false) (isChecked g && isDue (us j) (l .kept j)) 6 5 refl refl) ∙ e)
 fills-short us l i a (grants q) e = never e
 fills-short us l i a (gaps q) e = never e
@@ -202,6 +199,12 @@ module _ (us : ℕ → User) (n i : ℕ) where
   filled-le (suc k) = pick (λ x. x ≤ us i .fillers) (isOf 3 i (chosen us n k)) _ _ (omega arith)
       (pick-by (λ x. x ≤ us i .fillers) (fills i (loadAfter us n k .state) (chosen us n k)) _ _
       (λ e. let h = filled-le k in let z : loadAfter us n k .kept i .filled ≢ us i .fillers = fills-short us (waited (loadAfter us n k)) i _ (chosen-by us (waited (loadAfter us n k))) e in omega arith) (λ e. filled-le k))
+
+  -- nor more requests than actions
+  pub made-le : (k : ℕ) → loadAfter us n k .kept i .made ≤ k
+  unfolding loadAfter turned follows waited
+  made-le zero = omega arith
+  made-le (suc k) = let h = made-le k in pick (λ x. x ≤ suc k) (isOf 1 i (chosen us n k)) _ _ (omega arith) (omega arith)
 
   -- the count of signals stays below the period; it is that of the signals since the last loss
   pub heard-lt : (k : ℕ) → us i .period ≢ 0 → loadAfter us n k .kept i .heard < us i .period

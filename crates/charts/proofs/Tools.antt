@@ -145,16 +145,16 @@ pub some-agree : (u v : ℕ → Bool) (n : ℕ) → ((k : ℕ) → k < n → u k
 some-agree u v zero h = refl
 some-agree u v (suc n) h = ap₂ _||_ (h n (omega arith)) (some-agree u v n (λ k l. h k (omega arith)))
 
+pub some-none : (f : ℕ → Bool) (n : ℕ) → ((k : ℕ) → k < n → f k ≡ false) → some f n ≡ false
+some-none f zero h = refl
+some-none f (suc n) h = neither _ _ (h n (omega arith)) (some-none f n (λ k l. h k (omega arith)))
+
 -- where no other than i holds, f holds at i alone
 pub others-off : (f : ℕ → Bool) (n i : ℕ) → others f i n ≡ false → (k : ℕ) → k < n → k ≢ i → f k ≡ false
 others-off f n i e k h q = sym (upd-other f i false k q) ∙ none-of (upd f i false) n e k h
 
 pub others-none : (f : ℕ → Bool) (n i : ℕ) → ((k : ℕ) → k < n → k ≢ i → f k ≡ false) → others f i n ≡ false
-others-none f n i h = some-agree (upd f i false) (λ k. false) n (λ k l. at-upd≢ (λ k b. k < n → b ≡ false) f i false k (λ l. refl) (λ q l. h k l q) l) ∙ none n
-  where
-    none : (n : ℕ) → some (λ k. false) n ≡ false
-    none zero = refl
-    none (suc n) = none n
+others-none f n i h = some-none (upd f i false) n (λ k l. at-upd≢ (λ k b. k < n → b ≡ false) f i false k (λ l. refl) (λ q l. h k l q) l)
 
 low : (f : ℕ → Bool) (n d : ℕ) → f d ≡ true → f (lowest f n d) ≡ true
 low f zero d e = e
@@ -179,6 +179,14 @@ lowest-lt f (suc n) d e = go (f n) refl (lowest-lt f n d)
     go : (b : Bool) → f n ≡ b → (some f n ≡ true → lowest f n d < n) → lowest f n (cond b n d) < suc n
     go true q r = lowest-below f n n (suc n) (omega arith) (omega arith)
     go false q r = let z : lowest f n d < n = r (rw q at e) in omega arith
+
+pub lowest-none : (f : ℕ → Bool) (n d : ℕ) → some f n ≡ false → lowest f n d ≡ d
+lowest-none f zero d e = refl
+lowest-none f (suc n) d e = let z = or-false (f n) _ e in ap (λ b. lowest f n (cond b n d)) (z .0) ∙ lowest-none f n d (z .1)
+
+pub lowest-agree : (f g : ℕ → Bool) (n d : ℕ) → ((k : ℕ) → k < n → f k ≡ g k) → lowest f n d ≡ lowest g n d
+lowest-agree f g zero d h = refl
+lowest-agree f g (suc n) d h = ap (λ b. lowest f n (cond b n d)) (h n (omega arith)) ∙ lowest-agree f g n _ (λ k l. h k (omega arith))
 
 pub every-at : (f : ℕ → Bool) (n : ℕ) → every f n ≡ true → (k : ℕ) → k < n → f k ≡ true
 every-at f zero t k h = absurd (omega arith)

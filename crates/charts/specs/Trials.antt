@@ -13,6 +13,7 @@ use Rattle.charts.specs.declared.Move.{Move}
 use Rattle.charts.specs.declared.Move.the-variants.{Request, Arbitrate, Respond, Clock, Carry, Grant, GapNext, Reset, Ask, Decide}
 use Rattle.charts.specs.declared.Action.{Action}
 use Rattle.charts.specs.declared.User.{User}
+use Rattle.charts.specs.declared.Kept.{Kept}
 use Rattle.charts.specs.declared.Tally.{Tally}
 use Rattle.charts.specs.Numbers as N
 use Rattle.charts.specs.Modes.{isAnswering, isHolding, isSpurious}
@@ -24,14 +25,7 @@ use Rattle.charts.specs.Step.{Result, Event, refusal, accepted, step}
 use Rattle.charts.specs.Asking.{ofNode}
 use Rattle.charts.specs.Demand.{one}
 
--- "Kept beside the bus, for each user four numbers": what is left of its spell; the signals counted towards the next loss; the fillers made for the answer that it owes; its requests so far
-pub record Kept : Type 0 where
-  pub left : ℕ
-  pub heard : ℕ
-  pub filled : ℕ
-  pub made : ℕ
-
--- a trial under way: the bus and the users' numbers
+-- a trial under way: the bus, and "kept beside the bus, for each user four numbers"
 pub record Load : Type 0 where
   pub state : State
   pub kept : ℕ → Kept

@@ -254,6 +254,15 @@ pub struct Users {
     pub period: [u8; 63],
 }
 
+// The four numbers that a trial keeps for a user: what is left of its spell, the signals counted towards the next loss, the fillers made for the answer that it owes,
+// and its requests so far.
+pub struct Kept {
+    pub left: u8,
+    pub heard: u8,
+    pub filled: u8,
+    pub made: u16,
+}
+
 // What a trial counts: requests, wins, each kind of confirmation, drops.
 pub struct Tally {
     pub requests: u16,

@@ -1,6 +1,6 @@
 // Modes: their places in the charts' list, what they remember, and the mode of a node that is granted the bus.
 ghost use mathlib.Core.Path.{_≡_};
-ghost use Rattle.charts.specs.Modes.{placeOf, nameAt, isRest, isHolding, isAnswering, isAcking, isAsked};
+ghost use Rattle.charts.specs.Modes.{placeOf, nameAt, isRest, isHolding, isSpurious, isAnswering, isAcking, isAsked};
 ghost use Rattle.charts.specs.Places.{goodAck, goodDatum};
 ghost use Rattle.charts.specs.Actions.{granted};
 ghost use Rattle.link.specs.Reading.{remembered};
@@ -143,6 +143,12 @@ pub fn is_holding(mode: Mode) -> bool
     ensures { λ r. ⌜ r ≡ isHolding mode ⌝ }
 {
     place_of(mode) == HOLDING
+}
+
+pub fn is_spurious(mode: Mode) -> bool
+    ensures { λ r. ⌜ r ≡ isSpurious mode ⌝ }
+{
+    place_of(mode) == SPURIOUS
 }
 
 pub fn is_asked(mode: Mode) -> bool

@@ -1,6 +1,6 @@
 // Signals: the class in which a node meets one, and what each carries.
 ghost use mathlib.Core.Path.{_≡_};
-ghost use Rattle.charts.specs.Signals.{classOf, kindOf, headOf, datumOf, ackOf, isStart, isEnd, isPrefix};
+ghost use Rattle.charts.specs.Signals.{classOf, kindOf, headOf, datumOf, ackOf, isStart, isEnd, isPrefix, isChecked};
 use charts::Head;
 use charts::Signal;
 
@@ -146,4 +146,11 @@ pub fn is_prefix(s: Signal) -> bool
     ensures { λ r. ⌜ r ≡ isPrefix s ⌝ }
 {
     kind_of(s) == 2
+}
+
+// Header, Data or Ack: a signal that bears a check.
+pub fn is_checked(s: Signal) -> bool
+    ensures { λ r. ⌜ r ≡ isChecked s ⌝ }
+{
+    6 <= kind_of(s)
 }

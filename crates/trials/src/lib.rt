@@ -1,0 +1,153 @@
+// Load trials (docs/TRIALS.md).
+mod block;
+
+ghost use mathlib.Core.Path.{_≡_};
+ghost use mathlib.Core.Bool.{true, cond};
+ghost use Prim.Native.Nat.{_≤_};
+ghost use lib.Dec.{ltb};
+ghost use lib.Seq.{sets};
+ghost use Rattle.charts.specs.State.{some};
+ghost use Rattle.charts.specs.Valid.{isSize};
+ghost use Rattle.charts.specs.Trials.{begins, trial, strayAddress, trialNumber, noTally};
+ghost use Rattle.runfile.specs.File.{fileOf};
+ghost use Rattle.trials.specs.Trying.{usersOf, loadOf, Allowed, tried, triedOf, fileAfter};
+use block::Trial;
+use charts::Tally;
+use charts::Users;
+
+const WRONG_SIZE: u8 = 1;
+
+const WRONG_ADDRESS: u8 = 5;
+
+const WRONG_COUNT: u8 = 11;
+
+// What a trial gives: 0 or the number of its refusal, how many bytes of its run file are written, and the tally.
+pub struct Tried {
+    pub number: u8,
+    pub size: usize,
+    pub tally: Tally,
+}
+
+fn is_size(n: u8) -> bool
+    ensures { λ r. ⌜ r ≡ isSize n ⌝ }
+{
+    if 1 < n {
+        return n < 64;
+    }
+    false
+}
+
+// Whether the address of a node below n is neither below n nor 63.
+fn has_stray_address(users: Users, n: u8) -> bool
+    requires { ⌜ n ≤ 63 ⌝ }
+    ensures { λ r. ⌜ r ≡ some (strayAddress (usersOf users) n) n ⌝ }
+{
+    let address = users.address;
+    let mut k: u8 = 0;
+    while k < n {
+        if !record::is_address(n, address[k as usize]) {
+            return true;
+        }
+        k += 1;
+    }
+    false
+}
+
+// What a trial is refused by: 1, then 5, then 11.
+fn number_of(users: Users, n: u8, actions: u16) -> u8
+    ensures { λ r. ⌜ r ≡ trialNumber (usersOf users) n actions ⌝ }
+{
+    if !is_size(n) {
+        return WRONG_SIZE;
+    }
+    if has_stray_address(users, n) {
+        return WRONG_ADDRESS;
+    }
+    if actions == 0 {
+        return WRONG_COUNT;
+    }
+    0
+}
+
+fn nothing() -> Tally
+    ensures { λ r. ⌜ r ≡ noTally ⌝ }
+{
+    Tally {
+        requests: 0,
+        wins: 0,
+        sent: 0,
+        acks: 0,
+        misses: 0,
+        drops: 0,
+    }
+}
+
+// A trial before its first action.
+fn begin(n: u8) -> Trial
+    requires { ⌜ isSize n ≡ true ⌝ }
+    ensures { λ r. ⌜ r .bus .n ≡ n ⌝ }
+    ensures { λ r. ⌜ loadOf r ≡ begins n ⌝ }
+    ensures { λ r. ⌜ r .tally ≡ noTally ⌝ }
+{
+    let begun = bus::fresh(n);
+    let bus = begun.bus;
+    Trial {
+        bus: bus,
+        left: [0u8; 63],
+        heard: [0u8; 63],
+        filled: [0u8; 63],
+        made: [0u16; 63],
+        tally: nothing(),
+    }
+}
+
+// How many of the actions that are left go into a block: at most 31.
+fn count_of(left: u32) -> u32
+    ensures { λ r. ⌜ r ≡ cond (ltb left 31) left 31 ⌝ }
+{
+    if left < 31 { left } else { 31 }
+}
+
+// Makes the actions of a trial that is not refused, block by block, and writes their run file.
+fn carry_through(n: u8, users: Users, actions: u32, file: &mut [u8; 1082880]) -> Tried
+    requires { ⌜ Allowed (usersOf users) n ⌝ }
+    requires { ⌜ (1 ≤ actions) × (actions ≤ 65535) ⌝ }
+    ensures { λ r. ⌜ r ≡ tried (usersOf users) n actions ⌝ }
+    ensures { λ _. ⌜ now (file .exit) ≡ sets (now (file .entry)) 0 (fileOf n (trial (usersOf users) n actions)) ⌝ }
+{
+    let mut t = begin(n);
+    let mut number: u32 = 0;
+    let mut done: u32 = 0;
+    while done < actions {
+        let count = count_of(actions - done);
+        let made = block::make_actions(t, users, done, count as usize);
+        t = made.trial;
+        let records = made.records;
+        let size = 16 * (count as usize);
+        let at = 512 * (number as usize);
+        runfile::write_block(&mut file[at..at + 512], number, n, &records[..size]);
+        number += 1;
+        done += count;
+    }
+    Tried {
+        number: 0,
+        size: 512 * (number as usize),
+        tally: t.tally,
+    }
+}
+
+// A trial by value: its number, its run file in the lent bytes, and its tally.
+pub fn conduct(n: u8, users: Users, actions: u16, file: &mut [u8; 1082880]) -> Tried
+    ensures { λ r. ⌜ r ≡ triedOf (usersOf users) n actions ⌝ }
+    ensures { λ _. ⌜ now (file .exit) ≡ fileAfter (usersOf users) n actions (now (file .entry)) ⌝ }
+{
+    let number = number_of(users, n, actions);
+    if number != 0 {
+        return Tried {
+            number: number,
+            size: 0,
+            tally: nothing(),
+        };
+    }
+    carry_through(n, users, actions as u32, file)
+}

@@ -1,0 +1,5 @@
+pub mod Filled
+pub mod Negated
+pub mod Spells
+pub mod Rules
+pub mod Turning
