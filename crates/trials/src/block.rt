@@ -3,7 +3,8 @@ ghost use mathlib.Core.Path.{_≡_};
 ghost use Prim.Native.Nat.{_+_, _*_, _≤_};
 ghost use lib.ListN.{take};
 ghost use Rattle.record.specs.Layout.{recordsOf};
-ghost use Rattle.trials.specs.Trying.{Allowed, Stands, part, usersOf};
+ghost use Rattle.turns.specs.Turns.{Allowed};
+ghost use Rattle.trials.specs.Trying.{StandsAt, part, usersOf};
 use charts::Bus;
 use charts::Tally;
 use charts::Users;
@@ -28,9 +29,9 @@ pub(crate) struct Made {
 // record to `bus::advance` and back would take five times as long.
 pub(crate) fn make_actions(t: Trial, users: Users, done: u32, count: usize) -> Made
     requires { ⌜ Allowed (usersOf users) (t .bus .n) ⌝ }
-    requires { ⌜ Stands (usersOf users) done t ⌝ }
+    requires { ⌜ StandsAt (usersOf users) done t ⌝ }
     requires { ⌜ (count ≤ 31) × (done + count ≤ 65535) ⌝ }
-    ensures { λ r. ⌜ Stands (usersOf users) (done + count) (r .trial) ⌝ }
+    ensures { λ r. ⌜ StandsAt (usersOf users) (done + count) (r .trial) ⌝ }
     ensures { λ r. ⌜ take (16 * count) (r .records) ≡ recordsOf (part (usersOf users) (t .bus .n) done count) ⌝ }
 {
     let table = link::table::table();

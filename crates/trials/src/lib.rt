@@ -10,7 +10,8 @@ ghost use Rattle.charts.specs.State.{some};
 ghost use Rattle.charts.specs.Valid.{isSize};
 ghost use Rattle.charts.specs.Trials.{begins, trial, strayAddress, trialNumber, noTally};
 ghost use Rattle.runfile.specs.File.{fileOf};
-ghost use Rattle.trials.specs.Trying.{usersOf, loadOf, Allowed, tried, triedOf, fileAfter};
+ghost use Rattle.turns.specs.Turns.{loadIn, Allowed};
+ghost use Rattle.trials.specs.Trying.{usersOf, tried, triedOf, answered, fileAfter};
 use block::Trial;
 use charts::Tally;
 use charts::Users;
@@ -21,7 +22,13 @@ const WRONG_ADDRESS: u8 = 5;
 
 const WRONG_COUNT: u8 = 11;
 
-// What a trial gives: 0 or the number of its refusal, how many bytes of its run file are written, and the tally.
+// What a trial gives beside its run file and the lent tally: 0 or the number of its refusal, and how many bytes the run file has.
+pub struct Answer {
+    pub number: u8,
+    pub size: usize,
+}
+
+// The same with the tally.
 pub struct Tried {
     pub number: u8,
     pub size: usize,
@@ -86,7 +93,7 @@ fn nothing() -> Tally
 fn begin(n: u8) -> Trial
     requires { ⌜ isSize n ≡ true ⌝ }
     ensures { λ r. ⌜ r .bus .n ≡ n ⌝ }
-    ensures { λ r. ⌜ loadOf r ≡ begins n ⌝ }
+    ensures { λ r. ⌜ loadIn (r .bus) (r .left) (r .heard) (r .filled) (r .made) ≡ begins n ⌝ }
     ensures { λ r. ⌜ r .tally ≡ noTally ⌝ }
 {
     let begun = bus::fresh(n);
@@ -136,9 +143,9 @@ fn carry_through(n: u8, users: Users, actions: u32, file: &mut [u8; 1082880]) ->
     }
 }
 
-// A trial by value: its number, its run file in the lent bytes, and its tally.
-pub fn conduct(n: u8, users: Users, actions: u16, file: &mut [u8; 1082880]) -> Tried
-    ensures { λ r. ⌜ r ≡ triedOf (usersOf users) n actions ⌝ }
+// A trial by value: its number, its run file in the lent bytes, and its tally. A refused one has the tally that was kept before it.
+fn conduct(old: Tally, n: u8, users: Users, actions: u16, file: &mut [u8; 1082880]) -> Tried
+    ensures { λ r. ⌜ r ≡ triedOf old (usersOf users) n actions ⌝ }
     ensures { λ _. ⌜ now (file .exit) ≡ fileAfter (usersOf users) n actions (now (file .entry)) ⌝ }
 {
     let number = number_of(users, n, actions);
@@ -146,8 +153,50 @@ pub fn conduct(n: u8, users: Users, actions: u16, file: &mut [u8; 1082880]) -> T
         return Tried {
             number: number,
             size: 0,
-            tally: nothing(),
+            tally: old,
         };
     }
     carry_through(n, users, actions as u32, file)
+}
+
+// A trial with the caller's own tally: a refusal leaves it as it was, else it is that of the trial.
+pub fn trial(
+    n: u8,
+    users: Users,
+    actions: u16,
+    file: &mut [u8; 1082880],
+    tally: &mut Tally,
+) -> Answer
+    ensures { λ r. ⌜ r ≡ answered (triedOf (now (tally .entry)) (usersOf users) n actions) ⌝ }
+    ensures { λ _. ⌜ now (file .exit) ≡ fileAfter (usersOf users) n actions (now (file .entry)) ⌝ }
+    ensures { λ _. ⌜ now (tally .exit) ≡ triedOf (now (tally .entry)) (usersOf users) n actions .tally ⌝ }
+{
+    let old = *tally;
+    let t = conduct(old, n, users, actions, file);
+    *tally = t.tally;
+    Answer {
+        number: t.number,
+        size: t.size,
+    }
+}
+
+// For a caller that keeps no tally: the trial's own, by value; all 0 where it is refused.
+pub fn attempt(n: u8, users: Users, actions: u16, file: &mut [u8; 1082880]) -> Tried
+    ensures { λ r. ⌜ r ≡ triedOf noTally (usersOf users) n actions ⌝ }
+    ensures { λ _. ⌜ now (file .exit) ≡ fileAfter (usersOf users) n actions (now (file .entry)) ⌝ }
+{
+    let mut tally = Tally {
+        requests: 0,
+        wins: 0,
+        sent: 0,
+        acks: 0,
+        misses: 0,
+        drops: 0,
+    };
+    let a = trial(n, users, actions, file, &mut tally);
+    Tried {
+        number: a.number,
+        size: a.size,
+        tally: tally,
+    }
 }
