@@ -1,5 +1,5 @@
 //! The model written apart: an independent reference model of the IEEE 1394 rehearsal bench,
-//! written from document 01, requests 1 to 7 of document 02 and the readings of them, and from
+//! written from document 01, requests 1 to 8 of document 02 and the readings of them, and from
 //! nothing else.
 //!
 //! The model itself:
@@ -12,10 +12,13 @@
 //! - [`player`]: a run file in, the printed text out;
 //! - [`unplayed`]: a run file in whose actions are looked at, and not played;
 //! - [`sums`]: such a file in, its sums out;
-//! - [`notation`]: runs in plain words, a text to a run file and back.
+//! - [`plain`]: what texts in plain words have in common;
+//! - [`notation`]: runs in plain words, a text to a run file and back;
+//! - [`trial`]: load trials, settings to actions and a tally;
+//! - [`settings`]: such settings in plain words.
 //!
-//! What is done with it, against the programs `play`, `compose`, `list` and `sums`, stands in
-//! [`harness`].
+//! What is done with it, against the programs `play`, `compose`, `list`, `sums` and `trial`, stands
+//! in [`harness`].
 //!
 //! All forms of a run meet in [`bus::Record`]: `runfile` turns bytes into records and back, and
 //! `notation` lines of text.
@@ -26,9 +29,12 @@ pub mod bus;
 pub mod counts;
 pub mod harness;
 pub mod notation;
+pub mod plain;
 pub mod player;
 pub mod runfile;
+pub mod settings;
 pub mod sums;
 pub mod table;
 pub mod transcript;
+pub mod trial;
 pub mod unplayed;

@@ -1,14 +1,17 @@
-//! `model`: the model written apart, and the trials that hold the programs `play`, `compose`, `list`
-//! and `sums` against it.
+//! `model`: the model written apart, and what holds the programs `play`, `compose`, `list`, `sums` and
+//! `trial` against it.
 
 use std::io::{self, BufReader, BufWriter, StdinLock, StdoutLock, Write};
 use std::path::PathBuf;
 use std::process::ExitCode;
 
+use bench_model::harness::random::Random;
+use bench_model::harness::settings::made as made_settings;
 use bench_model::harness::{
-    bench, compare, compare_sums, compare_text, fuzz, generate, samples, walk,
+    bench, bench_trials, compare, compare_sums, compare_text, compare_trials, fuzz, generate,
+    samples, walk,
 };
-use bench_model::{counts, notation, player, sums, table};
+use bench_model::{counts, notation, player, settings, sums, table};
 
 const USAGE: &str = "\
 model play                                        a run file in, the printed text out
@@ -16,6 +19,8 @@ model compose [--lines]                           a run in plain words in, a run
                                                   says how many actions
 model list                                        a run file in, the run in plain words out
 model sums                                        a run file in, the sums of its blocks out
+model trial                                       the settings of a trial in plain words in, its run file out;
+                                                  the tally on standard error
 model table                                       the reception chart, 25 lines of 14 cells
 model counts                                      how many sequences of classes end where, 17 lines
 model compare PLAY [--files N] [--seed S] [--only K]
@@ -25,12 +30,17 @@ model compare-text COMPOSE LIST [--files N] [--seed S] [--only K]
                                                   made texts and files, by both programs and by the model
 model compare-sums SUMS [--files N] [--seed S] [--only K]
                                                   made files, summed by SUMS and by the model
+model compare-trials TRIAL PLAY [--files N] [--seed S] [--only K]
+                                                  made settings, tried by TRIAL and by the model; the
+                                                  runs played by PLAY
+model settings [--wrong] [--seed S]               made settings, right or with a fault
 model runs DIR PLAY COMPOSE LIST SUMS             the sample runs of a directory
 model walk [--n N]                                one transaction and its reply, every way they can go
 model generate mixed|broadcast|transaction [--n N] [--actions N] [--seed S]
                                                   a run file that plays to its end
 model bench PLAY [--kind KIND] [--actions N] [--rounds N] [--factor N] [--seed S]
-                                                  the speed of PLAY and of the model";
+                                                  the speed of PLAY and of the model
+model bench-trials TRIAL PLAY [--rounds N]        the time of TRIAL, and of PLAY for the same actions";
 
 fn main() -> ExitCode {
     match command() {
@@ -64,6 +74,10 @@ fn command() -> Result<(), String> {
             rest.end()?;
             sums().map_err(|error| error.to_string())
         }
+        "trial" => {
+            rest.end()?;
+            trial().map_err(|error| error.to_string())
+        }
         "table" => {
             rest.end()?;
             io::stdout().write_all(table::text().as_bytes()).map_err(|error| error.to_string())
@@ -82,6 +96,30 @@ fn command() -> Result<(), String> {
                 compare_text::Options { compose: &compose, list: &list, files, seed, only };
             print!("{}", compare_text::compare_text(&options)?);
             Ok(())
+        }
+        "compare-trials" => {
+            let files = rest.number("--files")?.unwrap_or(4000);
+            let seed = rest.number("--seed")?.unwrap_or(1);
+            let only = rest.number("--only")?;
+            let (trial, play) = (rest.path()?, rest.path()?);
+            rest.end()?;
+            let options = compare_trials::Options { trial: &trial, play: &play, files, seed, only };
+            print!("{}", compare_trials::compare_trials(&options)?);
+            Ok(())
+        }
+        "settings" => {
+            let wrong = rest.flag("--wrong");
+            let seed = rest.number("--seed")?.unwrap_or(1);
+            rest.end()?;
+            let text = made_settings(&mut Random::new(seed), wrong);
+            io::stdout().write_all(&text).map_err(|error| error.to_string())
+        }
+        "bench-trials" => {
+            let rounds = rest.number("--rounds")?.unwrap_or(9).max(1) as usize;
+            let (trial, play) = (rest.path()?, rest.path()?);
+            rest.end()?;
+            let options = bench_trials::Options { trial: &trial, play: &play, rounds };
+            bench_trials::bench_trials(&options)
         }
         "runs" => {
             let directory = rest.path()?;
@@ -180,6 +218,12 @@ fn list() -> io::Result<()> {
 fn sums() -> io::Result<()> {
     let (mut input, mut output) = buffered();
     sums::sums_stream(&mut input, &mut output)
+}
+
+/// The tally or the fault goes to standard error; here too the exit status does not tell.
+fn trial() -> io::Result<()> {
+    let (mut input, mut output) = buffered();
+    settings::trial_stream(&mut input, &mut output, &mut io::stderr())
 }
 
 /// The words after the subcommand: options are taken out, what is left is taken in order.

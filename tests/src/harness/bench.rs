@@ -24,7 +24,7 @@ const NODES: [u8; 3] = [2, 8, 63];
 const LONG_NODES: u8 = 8;
 
 /// A program to be measured, with its arguments.
-struct Player<'a> {
+pub struct Player<'a> {
     name: &'a str,
     path: PathBuf,
     arguments: &'a [&'a str],
@@ -32,12 +32,17 @@ struct Player<'a> {
 
 /// Of one run: time on the clock, and time on the processor if the system says.
 #[derive(Clone, Copy)]
-struct Time {
-    wall: Duration,
-    processor: Option<Duration>,
+pub struct Time {
+    pub wall: Duration,
+    pub processor: Option<Duration>,
 }
 
-impl Player<'_> {
+impl<'a> Player<'a> {
+    /// One without arguments.
+    pub fn new(name: &'a str, path: &Path) -> Player<'a> {
+        Player { name, path: path.to_path_buf(), arguments: &[] }
+    }
+
     fn spawn(&self, input: &Path, errors: Stdio) -> io::Result<Child> {
         Command::new(&self.path)
             .args(self.arguments)
@@ -47,7 +52,7 @@ impl Player<'_> {
             .spawn()
     }
 
-    fn time(&self, input: &Path) -> io::Result<Time> {
+    pub fn time(&self, input: &Path) -> io::Result<Time> {
         let start = Instant::now();
         let mut child = self.spawn(input, Stdio::piped())?;
         // Its errors are at their end when it is; then, before it is waited for, the system still
@@ -92,7 +97,7 @@ fn processor_time(process: u32) -> Option<Duration> {
     Some(Duration::from_nanos(nanoseconds))
 }
 
-fn median(mut values: Vec<f64>) -> f64 {
+pub fn median(mut values: Vec<f64>) -> f64 {
     values.sort_by(f64::total_cmp);
     values[values.len() / 2]
 }
@@ -145,7 +150,7 @@ pub fn bench(options: &Options) -> Result<(), String> {
 fn run(options: &Options) -> io::Result<()> {
     let scratch = Scratch::new()?;
     let input = scratch.file("bench.run");
-    let program = Player { name: "PLAY", path: options.program.to_path_buf(), arguments: &[] };
+    let program = Player::new("PLAY", options.program);
     let model = Player { name: "model", path: std::env::current_exe()?, arguments: &["play"] };
     println!(
         "Ratios of one run on this machine; output to /dev/null, process start included, medians of {} rounds in turn.",

@@ -62,7 +62,7 @@ pub fn run(program: &Path, arguments: &[&str], input: Input, length: usize) -> R
 }
 
 /// Both streams of a program against the model's.
-fn difference(ran: &Ran, output: &[u8], errors: &[u8]) -> Option<String> {
+pub fn difference(ran: &Ran, output: &[u8], errors: &[u8]) -> Option<String> {
     let shown = |bytes: &[u8]| String::from_utf8_lossy(&bytes[..bytes.len().min(300)]).into_owned();
     match ran.status {
         None => return Some("it did not end, or wrote without end, and was stopped".into()),
@@ -125,7 +125,7 @@ fn one_text(options: &Options, index: u64, path: &Path, hits: &mut Hits) -> Resu
     if let Some(why) = difference_of_lines(&ran, &made.lines, errors.as_bytes()) {
         return Err(fail(format!("COMPOSE --lines: {why}")));
     }
-    for name in aims::hits(&case.text, &made.file, made.complaint.as_ref()) {
+    for name in aims::hits(&case.text, made.complaint.as_ref()) {
         hits.enter(name);
     }
     Ok(())

@@ -10,7 +10,12 @@ pub struct Hits(BTreeMap<String, u64>);
 impl Hits {
     /// One more of this name.
     pub fn enter(&mut self, name: impl Into<String>) {
-        *self.0.entry(name.into()).or_default() += 1;
+        self.add(name, 1);
+    }
+
+    /// So many more of this name.
+    pub fn add(&mut self, name: impl Into<String>, count: u64) {
+        *self.0.entry(name.into()).or_default() += count;
     }
 
     fn count(&self, name: &str) -> u64 {
@@ -21,7 +26,7 @@ impl Hits {
 impl Merge for Hits {
     fn merge(&mut self, other: Hits) {
         for (name, count) in other.0 {
-            *self.0.entry(name).or_default() += count;
+            self.add(name, count);
         }
     }
 }

@@ -2,15 +2,16 @@
 //! Each knows what must be composed of it, from the grammar and not from the model.
 
 pub mod aims;
-mod spelling;
+pub mod spelling;
 mod wrong;
 
+use super::page::Page;
 use super::random::Random;
 use super::ways::{self, names, Field, KINDS};
 use crate::bus::{Record, ALL_NODES};
 use crate::notation::{self, Fault, Line, MARK};
 use crate::runfile::{BLOCK, FULL};
-use spelling::{any_line, blank_line, join, spell_number, Slot, Word, NAMES};
+use spelling::{any_line, Slot, Word, NAMES};
 pub use wrong::{End, Wrong};
 
 /// A text, and what must come of it; None without a plan.
@@ -83,91 +84,51 @@ impl TextWay {
 
 /// A text under way, and the list of actions that it says so far.
 struct Writer<'a> {
-    random: &'a mut Random,
+    page: Page<'a>,
     n: u8,
-    /// Starts with the byte order mark.
-    marked: bool,
-    text: Vec<u8>,
-    lines: u64,
-    /// Which of them says what.
+    /// Which of its lines says what.
     said: Vec<u8>,
     records: Vec<Record>,
-    /// With many blanks, comments and ways to write a number; or as `list` prints it.
-    free: bool,
 }
 
 impl<'a> Writer<'a> {
     fn new(random: &'a mut Random) -> Writer<'a> {
         let n = ways::nodes(random);
-        let free = random.percent(75);
-        let marked = random.percent(20);
-        Writer {
-            random,
-            n,
-            marked,
-            text: Vec::new(),
-            lines: 0,
-            said: Vec::new(),
-            records: Vec::new(),
-            free,
-        }
-    }
-
-    /// A line as it stands.
-    fn put(&mut self, line: &[u8]) {
-        self.text.extend_from_slice(line);
-        self.text.push(b'\n');
-        self.lines += 1;
+        Writer { page: Page::new(random), n, said: Vec::new(), records: Vec::new() }
     }
 
     /// The line put last says so many actions.
     fn says(&mut self, actions: usize) {
-        self.said.extend_from_slice(format!("{} {actions}\n", self.lines).as_bytes());
-    }
-
-    /// Some lines that say nothing, now and then.
-    fn blanks(&mut self) {
-        while self.free && self.random.percent(15) {
-            let line = blank_line(self.random);
-            self.put(&line);
-        }
-    }
-
-    fn words(&mut self, words: &[Word]) {
-        let line = match self.free {
-            true => join(self.random, words),
-            false => words.join(&b' '),
-        };
-        self.put(&line);
+        self.said.extend_from_slice(format!("{} {actions}\n", self.page.lines).as_bytes());
     }
 
     fn nodes(&mut self) {
-        self.blanks();
-        let n = self.number(self.n.into());
-        self.words(&[b"nodes".to_vec(), n]);
+        self.page.blanks();
+        let n = self.page.number(self.n.into());
+        self.page.words(&[b"nodes".to_vec(), n]);
         self.says(1);
-        self.blanks();
+        self.page.blanks();
     }
 
     /// One line of an action, so many times.
     fn acts(&mut self, record: Record, times: usize) {
         let mut words: Vec<Word> = self.spell(record).into_iter().map(|(_, word)| word).collect();
-        if times != 1 || self.free && self.random.percent(5) {
-            words.extend([b"*".to_vec(), self.number(times as u64)]);
+        if times != 1 || self.page.free && self.page.random.percent(5) {
+            words.extend([b"*".to_vec(), self.page.number(times as u64)]);
         }
-        self.words(&words);
+        self.page.words(&words);
         self.says(times);
         self.records.extend(std::iter::repeat_n(record, times));
-        self.blanks();
+        self.page.blanks();
     }
 
     /// Lines until there are so many actions.
     fn actions(&mut self, count: usize) {
         while self.records.len() < count {
             let left = count - self.records.len();
-            let times = match self.random.below(20) {
-                0 => self.random.between(1, left as u64) as usize,
-                1..=2 => self.random.between(1, left.min(6) as u64) as usize,
+            let times = match self.page.random.below(20) {
+                0 => self.page.random.between(1, left as u64) as usize,
+                1..=2 => self.page.random.between(1, left.min(6) as u64) as usize,
                 _ => 1,
             };
             let record = self.record();
@@ -176,15 +137,8 @@ impl<'a> Writer<'a> {
     }
 
     fn record(&mut self) -> Record {
-        let kind = self.random.byte(1, KINDS);
-        ways::right_record(self.random, self.n, kind)
-    }
-
-    fn number(&mut self, value: u64) -> Vec<u8> {
-        match self.free {
-            true => spell_number(self.random, value),
-            false => value.to_string().into(),
-        }
+        let kind = self.page.random.byte(1, KINDS);
+        ways::right_record(self.page.random, self.n, kind)
     }
 
     /// The words of an action's line, each with what it stands for.
@@ -192,25 +146,27 @@ impl<'a> Writer<'a> {
         let Record { kind, node, address, ack, hold, label, header, data, .. } = record;
         let mut words = vec![(Slot::Name, NAMES[usize::from(kind)].into())];
         if names(kind, Field::Node) {
-            words.push((Slot::Byte, self.number(node.into())));
+            words.push((Slot::Byte, self.page.number(node.into())));
         }
-        if kind == 1 || kind == 7 && (address != 0 || self.free && self.random.percent(50)) {
+        if kind == 1
+            || kind == 7 && (address != 0 || self.page.free && self.page.random.percent(50))
+        {
             let word = match address {
-                ALL_NODES if self.random.percent(70) => b"all".to_vec(),
-                _ => self.number(address.into()),
+                ALL_NODES if self.page.random.percent(70) => b"all".to_vec(),
+                _ => self.page.number(address.into()),
             };
             words.push((Slot::Address, word));
         }
         if kind == 1 {
-            words.push((Slot::Word, self.number(header.into())));
-            words.push((Slot::Word, self.number(data.into())));
-            if label != 0 || self.free && self.random.percent(30) {
+            words.push((Slot::Word, self.page.number(header.into())));
+            words.push((Slot::Word, self.page.number(data.into())));
+            if label != 0 || self.page.free && self.page.random.percent(30) {
                 words.push((Slot::Keyword, b"label".to_vec()));
-                words.push((Slot::Byte, self.number(label.into())));
+                words.push((Slot::Byte, self.page.number(label.into())));
             }
         }
         if kind == 3 {
-            words.push((Slot::Byte, self.number(ack.into())));
+            words.push((Slot::Byte, self.page.number(ack.into())));
             if hold == 1 {
                 words.push((Slot::Keyword, b"hold".to_vec()));
             }
@@ -218,27 +174,10 @@ impl<'a> Writer<'a> {
         words
     }
 
-    /// The text from its start, which may be the mark, to its end: the last newline may lack.
-    fn text(&mut self) -> Vec<u8> {
-        let mut text = std::mem::take(&mut self.text);
-        // A last line that is empty would not be one without its newline.
-        if self.random.percent(30)
-            && text.ends_with(b"\n")
-            && !text.ends_with(b"\n\n")
-            && text.len() > 1
-        {
-            text.pop();
-        }
-        match self.marked {
-            true => [MARK, &text].concat(),
-            false => text,
-        }
-    }
-
     fn composes(mut self) -> TextCase {
         let file = ways::file(self.n, &self.records);
         let lines = std::mem::take(&mut self.said);
-        TextCase { text: self.text(), expected: Some(Expected { file, lines, fault: None }) }
+        TextCase { text: self.page.text(), expected: Some(Expected { file, lines, fault: None }) }
     }
 
     /// The line put last has this fault: whole blocks before it are out. Anything may follow.
@@ -247,16 +186,16 @@ impl<'a> Writer<'a> {
         let mut file = ways::file(self.n, &self.records);
         file.truncate(whole * BLOCK);
         let lines = std::mem::take(&mut self.said);
-        let fault = Some((self.lines, fault));
-        if self.random.percent(60) {
-            let more = self.random.between(1, 70) as usize;
+        let fault = Some((self.page.lines, fault));
+        if self.page.random.percent(60) {
+            let more = self.page.random.between(1, 70) as usize;
             self.actions(self.records.len() + more);
         }
-        if self.random.percent(20) {
-            let line = any_line(self.random);
-            self.put(&line);
+        if self.page.random.percent(20) {
+            let line = any_line(self.page.random);
+            self.page.put(&line);
         }
-        TextCase { text: self.text(), expected: Some(Expected { file, lines, fault }) }
+        TextCase { text: self.page.text(), expected: Some(Expected { file, lines, fault }) }
     }
 }
 
@@ -270,23 +209,29 @@ fn right(random: &mut Random, actions: usize) -> TextCase {
 fn repeats(random: &mut Random) -> TextCase {
     let mut writer = Writer::new(random);
     writer.nodes();
-    for _ in 0..writer.random.between(1, 5) {
-        let some = writer.random.between(1, 40) as usize;
-        let many = match writer.random.below(10) {
-            0 => writer.random.between(5000, 60_000),
-            _ => writer.random.between(1, 3000),
+    for _ in 0..writer.page.random.between(1, 5) {
+        let some = writer.page.random.between(1, 40) as usize;
+        let many = match writer.page.random.below(10) {
+            0 => writer.page.random.between(5000, 60_000),
+            _ => writer.page.random.between(1, 3000),
         };
         let record = writer.record();
-        let times = writer.random.pick(&[1, 30, 31, 32, 61, 62, 63, 310, some, many as usize]);
+        let times = writer.page.random.pick(&[1, 30, 31, 32, 61, 62, 63, 310, some, many as usize]);
         writer.acts(record, times);
     }
     writer.composes()
 }
 
-/// A right text, or nearly, with some bytes altered.
+/// A right text with some bytes altered.
 fn mutated(random: &mut Random) -> TextCase {
     let actions = random.between(1, 80) as usize;
     let mut text = right(random, actions).text;
+    alter(random, &mut text);
+    TextCase { text: keep_small(text), expected: None }
+}
+
+/// Alters some bytes of a text.
+pub fn alter(random: &mut Random, text: &mut Vec<u8>) {
     for _ in 0..random.between(1, 4) {
         if text.is_empty() {
             break;
@@ -308,7 +253,6 @@ fn mutated(random: &mut Random) -> TextCase {
             _ => text.truncate(place),
         }
     }
-    TextCase { text: keep_small(text), expected: None }
 }
 
 /// A digit more may make a repeat of millions: blocks without end are tried elsewhere.
@@ -323,35 +267,39 @@ fn keep_small(text: Vec<u8>) -> Vec<u8> {
 
 fn any_words(random: &mut Random) -> TextCase {
     let mut writer = Writer::new(random);
-    if writer.random.percent(90) {
+    if writer.page.random.percent(90) {
         writer.nodes();
     }
-    let count = wrong::before(writer.random);
+    let count = wrong::before(writer.page.random);
     writer.actions(count);
-    for _ in 0..writer.random.between(1, 6) {
+    for _ in 0..writer.page.random.between(1, 6) {
         // An action's name first, most of the time.
-        let mut line = any_line(writer.random);
-        if writer.random.percent(80) {
-            let mut named = writer.random.pick(&NAMES[1..]).as_bytes().to_vec();
+        let mut line = any_line(writer.page.random);
+        if writer.page.random.percent(80) {
+            let mut named = writer.page.random.pick(&NAMES[1..]).as_bytes().to_vec();
             named.push(b' ');
             named.append(&mut line);
             line = named;
         }
-        writer.put(&line);
+        writer.page.put(&line);
     }
-    TextCase { text: keep_small(writer.text()), expected: None }
+    TextCase { text: keep_small(writer.page.text()), expected: None }
 }
 
-/// Two bytes for each of a right text, the one or the other first, with the mark of that or without.
 fn wide(random: &mut Random) -> TextCase {
     let actions = random.between(1, 20) as usize;
     let text = right(random, actions).text;
+    TextCase { text: widen(random, &text), expected: None }
+}
+
+/// Two bytes for each of a text, the one or the other first, with the mark of that or without.
+pub fn widen(random: &mut Random, text: &[u8]) -> Vec<u8> {
     let low_first = random.percent(50);
-    let pair = |byte| if low_first { [byte, 0] } else { [0, byte] };
+    let pair = |&byte| if low_first { [byte, 0] } else { [0, byte] };
     let mut wide = Vec::new();
     if random.percent(70) {
         wide.extend(if low_first { [0xff, 0xfe] } else { [0xfe, 0xff] });
     }
-    wide.extend(text.into_iter().flat_map(pair));
-    TextCase { text: wide, expected: None }
+    wide.extend(text.iter().flat_map(pair));
+    wide
 }

@@ -367,7 +367,7 @@ pub(super) fn too_high(random: &mut Random, n: u8) -> u8 {
     random.pick(&[n, n, 63, 64, 255, any])
 }
 
-pub(super) fn no_address(random: &mut Random, n: u8) -> u8 {
+pub fn no_address(random: &mut Random, n: u8) -> u8 {
     let any = random.byte(n, 255);
     loop {
         let address = random.pick(&[n, n, 62, 64, 255, any]);

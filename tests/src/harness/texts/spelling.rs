@@ -29,6 +29,8 @@ pub enum Slot {
     Name,
     Byte,
     Address,
+    /// Of 16 bits: how many actions a trial has.
+    Half,
     Word,
     /// `hold`, or the `label` before its number: it may lack.
     Keyword,
@@ -189,8 +191,8 @@ pub fn no_number(random: &mut Random) -> Word {
     pick_word(random, words)
 }
 
-/// A number larger than a byte or a word of 32 bits; just above it often, and above what a machine's
-/// words hold.
+/// A number larger than a byte, or than 16 or 32 bits; just above it often, and above what a
+/// machine's words hold.
 pub fn too_large(random: &mut Random, slot: Slot) -> Word {
     let any = random.draw();
     let value: u128 = match slot {
@@ -203,6 +205,18 @@ pub fn too_large(random: &mut Random, slot: Slot) -> Word {
             (1 << 64) + 5,
             u128::from(any) + (1 << 32),
             u128::MAX,
+        ]),
+        Slot::Half => random.pick(&[
+            65_536,
+            65_537,
+            70_000,
+            99_999,
+            655_350,
+            1 << 17,
+            (1 << 32) - 1,
+            (1 << 32) + 1,
+            (1 << 64) + 1,
+            u128::from(any) + 65_536,
         ]),
         _ => random.pick(&[
             256,
@@ -235,6 +249,22 @@ pub fn too_large(random: &mut Random, slot: Slot) -> Word {
     };
     digits += &"0".repeat(zeros);
     digits.into()
+}
+
+/// Any words after the first fault of a line, now and then: they do not count.
+pub fn spoil_with(
+    random: &mut Random,
+    words: &mut Vec<Word>,
+    from: usize,
+    any: fn(&mut Random) -> Word,
+) {
+    if !random.percent(40) {
+        return;
+    }
+    words.truncate(from);
+    for _ in 0..random.below(4) {
+        words.push(any(random));
+    }
 }
 
 /// A word of the grammar, or another.

@@ -1,8 +1,8 @@
 //! Texts with one wrong line, and texts that end too early.
 
 use super::spelling::{
-    any_word, blank_line, no_number, spell_number, strange_word, stretch, too_large, unknown_word,
-    Slot, Word,
+    any_word, blank_line, no_number, spell_number, spoil_with, strange_word, stretch, too_large,
+    unknown_word, Slot, Word,
 };
 use super::{Expected, TextCase, Writer};
 use crate::bus::Record;
@@ -99,15 +99,8 @@ pub fn before(random: &mut Random) -> usize {
     random.pick(&[0, 0, 1, 2, 29, 30, 31, 32, 61, 62, 63, 93, any, any])
 }
 
-/// Any words after the first fault of a line: they do not count.
 fn spoil_rest(random: &mut Random, words: &mut Vec<Word>, from: usize) {
-    if !random.percent(40) {
-        return;
-    }
-    words.truncate(from);
-    for _ in 0..random.below(4) {
-        words.push(any_word(random));
-    }
+    spoil_with(random, words, from, any_word);
 }
 
 /// A text with this line in it.
@@ -115,18 +108,17 @@ pub fn wrong_line(random: &mut Random, wrong: Wrong) -> TextCase {
     let count = before(random);
     let mut writer = Writer::new(random);
     if matches!(wrong, Wrong::SecondMark | Wrong::HalfMark) {
-        writer.marked = wrong == Wrong::SecondMark;
-        let line = line_after_no_mark(&mut writer);
-        writer.put(&line);
+        writer.page.marked = wrong == Wrong::SecondMark;
+        writer.page.no_mark();
         return writer.faulty(Fault::UnknownWord);
     }
     // A fault of the first line that is not blank.
     let first = match wrong {
         Wrong::ActionBeforeNodes | Wrong::Nodes(_) => true,
         Wrong::Missing(0) | Wrong::NotANumber(0) | Wrong::TooLarge(0) | Wrong::Extra(0) => {
-            writer.random.percent(70)
+            writer.page.random.percent(70)
         }
-        Wrong::Long(_) => writer.random.percent(30),
+        Wrong::Long(_) => writer.page.random.percent(30),
         // At the very start it would be skipped.
         Wrong::MarkInside => false,
         // A line's own fault is looked at before its place.
@@ -135,18 +127,17 @@ pub fn wrong_line(random: &mut Random, wrong: Wrong) -> TextCase {
         | Wrong::Address(_)
         | Wrong::Label(_)
         | Wrong::Ack(_) => false,
-        _ => writer.random.percent(10),
+        _ => writer.page.random.percent(10),
     };
     match first {
-        true => writer.blanks(),
+        true => writer.page.blanks(),
         false => {
             writer.nodes();
             writer.actions(count);
         }
     }
     if let Wrong::Long(length) = wrong {
-        let line = long_line(&mut writer, length);
-        writer.put(&line);
+        writer.page.long(length, &[b"#", b"pass", b"unknown", b"clock 0 # ", b""]);
         return writer.faulty(Fault::LongLine);
     }
     let (words, fault) = loop {
@@ -156,51 +147,22 @@ pub fn wrong_line(random: &mut Random, wrong: Wrong) -> TextCase {
         }
     };
     match fault {
-        Fault::Refused(_) if writer.random.percent(25) => {
-            let line = stretch(writer.random, &words);
-            writer.put(&line);
+        Fault::Refused(_) if writer.page.random.percent(25) => {
+            let line = stretch(writer.page.random, &words);
+            writer.page.put(&line);
         }
-        _ => writer.words(&words),
+        _ => writer.page.words(&words),
     }
     writer.faulty(fault)
-}
-
-/// A first line whose first word begins with a mark after the text's own, or with part of one.
-fn line_after_no_mark(writer: &mut Writer) -> Vec<u8> {
-    let start = match writer.marked {
-        true => MARK,
-        false => writer.random.pick(&[
-            &b"\xef"[..],
-            b"\xef\xbb",
-            b"\xef\xbb\xbe",
-            b"\xef\xbb ",
-            b"\xef\xbf\xbb",
-            b"\xbb\xbf",
-        ]),
-    };
-    [start, writer.random.pick(&[&b"nodes 2"[..], b"", b" nodes 2", b"# nodes 2"])].concat()
-}
-
-fn long_line(writer: &mut Writer, length: usize) -> Vec<u8> {
-    let mut line = match writer.random.below(5) {
-        0 => b"#".to_vec(),
-        1 => b"pass".to_vec(),
-        2 => b"unknown".to_vec(),
-        3 => b"clock 0 # ".to_vec(),
-        _ => Vec::new(),
-    };
-    let fill = writer.random.pick(b" \t\r#x0");
-    line.resize(length, fill);
-    line
 }
 
 /// The words of a right line of this kind, 0 for `nodes`, each with what it stands for.
 fn right_words(writer: &mut Writer, kind: u8) -> Vec<(Slot, Word)> {
     if kind == 0 {
-        let n = writer.random.byte(2, 63);
-        return vec![(Slot::Name, b"nodes".to_vec()), (Slot::Byte, writer.number(n.into()))];
+        let n = writer.page.random.byte(2, 63);
+        return vec![(Slot::Name, b"nodes".to_vec()), (Slot::Byte, writer.page.number(n.into()))];
     }
-    let mut record = ways::right_record(writer.random, writer.n, kind);
+    let mut record = ways::right_record(writer.page.random, writer.n, kind);
     // `change` with its address.
     if kind == 7 {
         record.address = 1;
@@ -230,23 +192,23 @@ fn wrong_words(writer: &mut Writer, wrong: Wrong) -> (Vec<Word>, Fault) {
     match wrong {
         Wrong::Long(_) | Wrong::SecondMark | Wrong::HalfMark => unreachable!("not made of words"),
         Wrong::UnknownWord => {
-            let mut words = vec![unknown_word(writer.random)];
-            spoil_rest(writer.random, &mut words, 1);
+            let mut words = vec![unknown_word(writer.page.random)];
+            spoil_rest(writer.page.random, &mut words, 1);
             (words, Fault::UnknownWord)
         }
         Wrong::MarkInside => {
-            let kind = writer.random.pick(&[1, 2, 3, 4, 5, 7, 11, 12]);
+            let kind = writer.page.random.pick(&[1, 2, 3, 4, 5, 7, 11, 12]);
             let words = right_words(writer, kind);
             let mut places = places(&words);
             places.push(0);
-            let place = writer.random.pick(&places);
+            let place = writer.page.random.pick(&places);
             let mut words = bare(words);
             words[place] = [MARK, &words[place]].concat();
             (words, if place == 0 { Fault::UnknownWord } else { Fault::NotANumber })
         }
         Wrong::Missing(kind) => {
             let words = right_words(writer, kind);
-            let first_missing = writer.random.pick(&places(&words));
+            let first_missing = writer.page.random.pick(&places(&words));
             let mut words = bare(words);
             words.truncate(first_missing);
             (words, Fault::MissingField)
@@ -254,16 +216,16 @@ fn wrong_words(writer: &mut Writer, wrong: Wrong) -> (Vec<Word>, Fault) {
         Wrong::NotANumber(kind) => (not_a_number(writer, kind), Fault::NotANumber),
         Wrong::TooLarge(kind) => {
             let words = right_words(writer, kind);
-            let place = writer.random.pick(&places(&words));
+            let place = writer.page.random.pick(&places(&words));
             let slot = words[place].0;
             let mut words = bare(words);
-            words[place] = too_large(writer.random, slot);
-            spoil_rest(writer.random, &mut words, place + 1);
+            words[place] = too_large(writer.page.random, slot);
+            spoil_rest(writer.page.random, &mut words, place + 1);
             (words, Fault::TooLarge)
         }
         Wrong::Extra(kind) => (extra(writer, kind), Fault::ExtraField),
         Wrong::LabelForField => {
-            let before = writer.random.between(1, 4) as usize;
+            let before = writer.page.random.between(1, 4) as usize;
             let mut words = up_to_label(writer, before);
             words.push(b"7".to_vec());
             (words, Fault::NotANumber)
@@ -285,43 +247,45 @@ fn wrong_words(writer: &mut Writer, wrong: Wrong) -> (Vec<Word>, Fault) {
         }
         Wrong::RepeatWithoutCount => (repeat(writer, None), Fault::MissingField),
         Wrong::RepeatNotANumber => {
-            let count = no_number(writer.random);
+            let count = no_number(writer.page.random);
             (repeat(writer, Some(count)), Fault::NotANumber)
         }
         Wrong::RepeatTooLarge => {
-            let count = too_large(writer.random, Slot::Word);
+            let count = too_large(writer.page.random, Slot::Word);
             (repeat(writer, Some(count)), Fault::TooLarge)
         }
         Wrong::RepeatOfZero => {
-            let count = spell_number(writer.random, 0);
+            let count = spell_number(writer.page.random, 0);
             (repeat(writer, Some(count)), Fault::RepeatOfZero)
         }
         Wrong::ActionBeforeNodes => {
-            let kind = writer.random.byte(1, KINDS);
+            let kind = writer.page.random.byte(1, KINDS);
             (bare(right_words(writer, kind)), Fault::NoNodesLine)
         }
         Wrong::SecondNodes => {
-            let any = writer.random.byte(0, 255);
-            let n = writer.random.pick(&[writer.n, any]);
-            (vec![b"nodes".to_vec(), writer.number(n.into())], Fault::NodesAgain)
+            let any = writer.page.random.byte(0, 255);
+            let n = writer.page.random.pick(&[writer.n, any]);
+            (vec![b"nodes".to_vec(), writer.page.number(n.into())], Fault::NodesAgain)
         }
-        Wrong::Nodes(n) => (vec![b"nodes".to_vec(), writer.number(n.into())], Fault::Refused(1)),
+        Wrong::Nodes(n) => {
+            (vec![b"nodes".to_vec(), writer.page.number(n.into())], Fault::Refused(1))
+        }
         Wrong::Node(kind) => (node_too_high(writer, kind), Fault::Refused(4)),
         Wrong::Address(kind) => {
-            let mut record = ways::right_record(writer.random, writer.n, kind);
-            record.address = ways::no_address(writer.random, writer.n);
+            let mut record = ways::right_record(writer.page.random, writer.n, kind);
+            record.address = ways::no_address(writer.page.random, writer.n);
             // The number after 5 too, now and then.
-            if kind == 1 && writer.random.percent(50) {
-                record.label = ways::no_label(writer.random);
+            if kind == 1 && writer.page.random.percent(50) {
+                record.label = ways::no_label(writer.page.random);
             }
             (refused(writer, record), Fault::Refused(5))
         }
         Wrong::Label(label) => {
-            let record = ways::right_record(writer.random, writer.n, 1);
+            let record = ways::right_record(writer.page.random, writer.n, 1);
             (refused(writer, Record { label, ..record }), Fault::Refused(13))
         }
         Wrong::Ack(ack) => {
-            let record = ways::right_record(writer.random, writer.n, 3);
+            let record = ways::right_record(writer.page.random, writer.n, 3);
             (refused(writer, Record { ack, ..record }), Fault::Refused(6))
         }
     }
@@ -329,19 +293,19 @@ fn wrong_words(writer: &mut Writer, wrong: Wrong) -> (Vec<Word>, Fault) {
 
 fn not_a_number(writer: &mut Writer, kind: u8) -> Vec<Word> {
     let words = right_words(writer, kind);
-    let place = writer.random.pick(&places(&words));
+    let place = writer.page.random.pick(&places(&words));
     let slot = words[place].0;
     let mut words = bare(words);
-    words[place] = no_number(writer.random);
+    words[place] = no_number(writer.page.random);
     // `change * ..` is a repeat.
     if kind == 7 && words[place] == b"*" {
         words[place] = b"change".to_vec();
     }
     // Only an address can be `all`.
-    if slot != Slot::Address && writer.random.percent(20) {
+    if slot != Slot::Address && writer.page.random.percent(20) {
         words[place] = b"all".to_vec();
     }
-    spoil_rest(writer.random, &mut words, place + 1);
+    spoil_rest(writer.page.random, &mut words, place + 1);
     words
 }
 
@@ -355,46 +319,46 @@ fn extra(writer: &mut Writer, kind: u8) -> Vec<Word> {
         _ => b"",
     };
     let may_repeat = kind != 0;
-    if may_repeat && writer.random.percent(40) {
-        words.extend([b"*".to_vec(), b"2".to_vec(), any_word(writer.random)]);
-    } else if writer.random.percent(40) {
-        words.push(strange_word(writer.random));
+    if may_repeat && writer.page.random.percent(40) {
+        words.extend([b"*".to_vec(), b"2".to_vec(), any_word(writer.page.random)]);
+    } else if writer.page.random.percent(40) {
+        words.push(strange_word(writer.page.random));
     } else {
-        let mut word = any_word(writer.random);
+        let mut word = any_word(writer.page.random);
         while may_repeat && word == b"*" || word == keyword {
-            word = any_word(writer.random);
+            word = any_word(writer.page.random);
         }
         words.push(word);
     }
     let length = words.len();
-    spoil_rest(writer.random, &mut words, length);
+    spoil_rest(writer.page.random, &mut words, length);
     words
 }
 
 /// A right action with `*` and this in the place of the count.
 fn repeat(writer: &mut Writer, count: Option<Word>) -> Vec<Word> {
-    let kind = writer.random.byte(1, KINDS);
+    let kind = writer.page.random.byte(1, KINDS);
     let mut words = bare(right_words(writer, kind));
     words.push(b"*".to_vec());
     if let Some(count) = count {
         words.push(count);
         let length = words.len();
-        spoil_rest(writer.random, &mut words, length);
+        spoil_rest(writer.page.random, &mut words, length);
     }
     words
 }
 
 fn node_too_high(writer: &mut Writer, kind: u8) -> Vec<Word> {
-    let mut record = ways::right_record(writer.random, writer.n, kind);
-    record.node = ways::too_high(writer.random, writer.n);
+    let mut record = ways::right_record(writer.page.random, writer.n, kind);
+    record.node = ways::too_high(writer.page.random, writer.n);
     // The numbers after 4 too, now and then.
-    if writer.random.percent(30) {
+    if writer.page.random.percent(30) {
         match kind {
             1 => {
-                record.address = ways::no_address(writer.random, writer.n);
-                record.label = ways::no_label(writer.random);
+                record.address = ways::no_address(writer.page.random, writer.n);
+                record.label = ways::no_label(writer.page.random);
             }
-            3 => record.ack = writer.random.byte(16, 255),
+            3 => record.ack = writer.page.random.byte(16, 255),
             _ => (),
         }
     }
@@ -404,7 +368,7 @@ fn node_too_high(writer: &mut Writer, kind: u8) -> Vec<Word> {
 /// The words of an action that the writer refuses, now and then repeated.
 fn refused(writer: &mut Writer, record: Record) -> Vec<Word> {
     let mut words = bare(writer.spell(record));
-    if writer.random.percent(25) {
+    if writer.page.random.percent(25) {
         words.extend([b"*".to_vec(), b"100".to_vec()]);
     }
     words
@@ -415,32 +379,35 @@ pub fn wrong_end(random: &mut Random, end: End) -> TextCase {
     let mut writer = Writer::new(random);
     let fault = match end {
         End::Empty | End::MarkAlone => {
-            writer.marked = end == End::MarkAlone;
+            writer.page.marked = end == End::MarkAlone;
             Fault::NoNodesLine
         }
         End::HalfMarkAlone => {
-            writer.marked = false;
-            writer.text = MARK[..writer.random.between(1, 2) as usize].to_vec();
-            writer.lines = 1;
+            writer.page.marked = false;
+            writer.page.text = MARK[..writer.page.random.between(1, 2) as usize].to_vec();
+            writer.page.lines = 1;
             Fault::UnknownWord
         }
         End::BlankAlone => {
-            for _ in 0..writer.random.between(1, 5) {
-                let line = blank_line(writer.random);
-                writer.put(&line);
+            for _ in 0..writer.page.random.between(1, 5) {
+                let line = blank_line(writer.page.random);
+                writer.page.put(&line);
             }
             Fault::NoNodesLine
         }
         End::NodesAlone => {
             writer.nodes();
-            for _ in 0..writer.random.below(3) {
-                let line = blank_line(writer.random);
-                writer.put(&line);
+            for _ in 0..writer.page.random.below(3) {
+                let line = blank_line(writer.page.random);
+                writer.page.put(&line);
             }
             Fault::NoAction
         }
     };
-    let fault = Some((writer.lines, fault));
+    let fault = Some((writer.page.lines, fault));
     let lines = std::mem::take(&mut writer.said);
-    TextCase { text: writer.text(), expected: Some(Expected { file: Vec::new(), lines, fault }) }
+    TextCase {
+        text: writer.page.text(),
+        expected: Some(Expected { file: Vec::new(), lines, fault }),
+    }
 }

@@ -1,0 +1,161 @@
+//! "Settings in plain words": a text to the settings of a trial.
+
+use std::io::{self, BufRead, Write};
+
+use crate::bus::{is_address, MOST_NODES};
+use crate::plain::{self, Complaint, Fault, Fields, Flaw, Nodes};
+use crate::trial::{self, Settings, Tally, User};
+
+/// What a line says by itself.
+#[derive(Clone, Copy, PartialEq, Eq, Debug)]
+pub enum Line {
+    Blank,
+    Nodes(u8),
+    Actions(u16),
+    /// "What is not said is 0, and release".
+    User(u8, User),
+}
+
+/// Reads one line, given without its newline.
+pub fn read_line(line: &[u8]) -> Result<Line, Flaw> {
+    let mut fields = Fields::of(line)?;
+    match fields.take() {
+        None => Ok(Line::Blank),
+        Some(b"nodes") => fields.nodes().map(Line::Nodes),
+        Some(b"actions") => fields.actions().map(Line::Actions),
+        Some(b"user") => fields.user().map(|(node, user)| Line::User(node, user)),
+        Some(name) => Err(Flaw::unknown(name)),
+    }
+}
+
+/// What the lines of settings have beside.
+impl Fields<'_> {
+    /// What follows the word `actions`.
+    fn actions(&mut self) -> Result<u16, Flaw> {
+        let actions = self.number("the number of actions", u16::MAX)?;
+        self.end()?;
+        Ok(actions)
+    }
+
+    /// What follows the word `user`: "The words of a user stand in this order."
+    fn user(&mut self) -> Result<(u8, User), Flaw> {
+        let node = self.byte("the node of user")?;
+        let address = match self.take_if(b"to") {
+            true => self.address("the address of user")?,
+            false => 0,
+        };
+        let user = User {
+            address,
+            spell: self.byte_after(b"spell", "the spell of user")?,
+            fillers: self.byte_after(b"fillers", "the fillers of user")?,
+            hold: self.take_if(b"hold"),
+            period: self.byte_after(b"lose", "the period of user")?,
+        };
+        self.end()?;
+        Ok((node, user))
+    }
+}
+
+/// A text being read. "Of two lines about the same user, or about the actions, the later one counts,
+/// whole."
+struct Text {
+    nodes: Nodes,
+    actions: u16,
+    users: [User; MOST_NODES],
+}
+
+impl Text {
+    fn new() -> Text {
+        Text { nodes: Nodes::default(), actions: 0, users: [User::default(); MOST_NODES] }
+    }
+
+    /// One line of the text, in its place.
+    fn line(&mut self, line: &[u8]) -> Result<(), Flaw> {
+        match read_line(line)? {
+            Line::Blank => (),
+            Line::Nodes(n) => self.nodes.say(n, line)?,
+            Line::Actions(actions) => {
+                self.nodes.said()?;
+                self.actions = actions;
+            }
+            Line::User(node, user) => {
+                let n = self.nodes.said()?;
+                look(node, &user, n, line)?;
+                self.users[usize::from(node)] = user;
+            }
+        }
+        Ok(())
+    }
+
+    /// "`actions 0`, which the trial would refuse by 11, or no `actions` line: told at the text's end"
+    fn end(&self) -> Result<(), Flaw> {
+        self.nodes.said()?;
+        match self.actions {
+            0 => Err(Fault::NoAction.into()),
+            _ => Ok(()),
+        }
+    }
+
+    fn settings(self) -> Result<Settings, Flaw> {
+        let n = self.nodes.said()?;
+        Ok(Settings { n, users: self.users, actions: self.actions })
+    }
+}
+
+/// The line of a user by 4, then by 5.
+fn look(node: u8, user: &User, n: u8, line: &[u8]) -> Result<(), Flaw> {
+    if node >= n {
+        return Err(Flaw::no_node(node, n, line));
+    }
+    match is_address(user.address, n) {
+        true => Ok(()),
+        false => Err(Flaw::no_address(user.address, n, line)),
+    }
+}
+
+/// The settings that a text of any length says, or its first fault.
+pub fn read_stream(input: &mut impl BufRead) -> io::Result<Result<Settings, Complaint>> {
+    let mut text = Text::new();
+    let ended = plain::read_text(input, |_, line| {
+        Ok(match line {
+            Some(line) => text.line(line),
+            None => text.end(),
+        })
+    })?;
+    Ok(ended.map(|()| text.settings().expect("it has its nodes line")))
+}
+
+/// The same of a whole text.
+pub fn read(text: &[u8]) -> Result<Settings, Complaint> {
+    read_stream(&mut &text[..]).expect("memory can be read")
+}
+
+/// What the program `trial` writes: "The run file goes to standard output, and the tally to standard
+/// error". "A text that is wrong makes no run: one line goes to standard error".
+pub fn trial(text: &[u8]) -> (Vec<u8>, String) {
+    run(read(text))
+}
+
+fn run(read: Result<Settings, Complaint>) -> (Vec<u8>, String) {
+    match read {
+        Ok(settings) => {
+            let mut tally = Tally::default();
+            let file =
+                trial::run_file(&settings, &mut tally).expect("what was read is not refused");
+            (file, tally.to_string())
+        }
+        Err(complaint) => (Vec::new(), format!("{complaint}\n")),
+    }
+}
+
+/// The same for what a reader gives.
+pub fn trial_stream(
+    input: &mut impl BufRead,
+    output: &mut impl Write,
+    errors: &mut impl Write,
+) -> io::Result<()> {
+    let (file, said) = run(read_stream(input)?);
+    output.write_all(&file)?;
+    output.flush()?;
+    errors.write_all(said.as_bytes())
+}
