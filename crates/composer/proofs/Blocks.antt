@@ -14,6 +14,7 @@ use Rattle.record.specs.Layout.{bytesOf, recordsOf}
 use Rattle.record.proofs.Round.{length-bytes}
 use Rattle.runfile.specs.Write.{writeNumber, blockOf}
 use Rattle.runfile.proofs.Lists.{records-length}
+use Rattle.runfile.proofs.Rows.{stored-size, stored-holds}
 use Rattle.composer.specs.declared.Stage.the-variants.{Going}
 use Rattle.composer.specs.declared.Composer.{Composer}
 use Rattle.notation.specs.Words.{limit}
@@ -27,33 +28,6 @@ pub record At (n i : ℕ) (l : List Action) (c : Composer) : Type 0 where
   pub count : c .count ≡ length l
   pub size : length (c .records) ≡ 496
   pub holds : take (16 * length l) (c .records) ≡ recordsOf l
-
-records-more : (l : List Action) (a : Action) → recordsOf (l ++ (a ∷ [])) ≡ recordsOf l ++ bytesOf a
-records-more [] a = append-nil (bytesOf a)
-records-more (b ∷ l) a = rw (records-more l a) (sym (append-assoc (bytesOf b) (recordsOf l) (bytesOf a)))
-
--- a record stored after those of l
-module _ (s : List ℕ) (l : List Action) (a : Action) (size : length s ≡ 496) (few : length l < 31) (holds : take (16 * length l) s ≡ recordsOf l) where
-  room : 16 * length l + 16 ≤ length s
-  room = omega arith
-
-  stored-is : putAt s (16 * length l) (bytesOf a) ≡ (recordsOf l ++ bytesOf a) ++ drop (16 * length l + 16) s
-  unfolding putAt
-  stored-is =
-      let fits = room in
-      rw (length-bytes a, le-leb (16 * length l + 16) (length s) fits, holds)
-
-  two-length : length (recordsOf l ++ bytesOf a) ≡ 16 * suc (length l)
-  two-length = length-append (recordsOf l) (bytesOf a) ∙ rw (records-length l, length-bytes a) (omega arith)
-
-  pub stored-size : length (putAt s (16 * length l) (bytesOf a)) ≡ 496
-  stored-size =
-      let fits = room in
-      let two = two-length in
-      rw stored-is (length-append (recordsOf l ++ bytesOf a) (drop (16 * length l + 16) s) ∙ rw (two, length-drop) (omega arith))
-
-  pub stored-holds : take (16 * suc (length l)) (putAt s (16 * length l) (bytesOf a)) ≡ recordsOf (l ++ (a ∷ []))
-  stored-holds = rw (stored-is, records-more l a) (take-at (recordsOf l ++ bytesOf a) (drop (16 * length l + 16) s) (16 * suc (length l)) two-length)
 
 -- what a put does: the composer after it, and the block that it wrote
 pub record Puts (n i k : ℕ) (l : List Action) (a : Action) (c : Composer) (bytes : List ℕ) : Type 0 where

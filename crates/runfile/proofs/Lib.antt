@@ -10,3 +10,4 @@ pub mod Files
 pub mod Cases
 pub mod Pieces
 pub mod Stages
+pub mod Rows

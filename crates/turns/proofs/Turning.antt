@@ -23,7 +23,7 @@ use Rattle.charts.specs.State.{State, wons, holders, upd, isIdle, isEmpty, fres
 use Rattle.charts.specs.Actions.{nextOf}
 use Rattle.charts.specs.Records.{moveOf}
 use Rattle.charts.specs.Valid.{valid}
-use Rattle.charts.specs.Step.{Result, Event, refusal, accepted, isAccepted, eventOf, events, after, step}
+use Rattle.charts.specs.Step.{Result, Event, refusal, accepted, isAccepted, someAsked, eventOf, events, step}
 use Rattle.charts.specs.Demand.{isOpen, one, final, history}
 use Rattle.charts.specs.Trials.{Load, reported, choice, waits, waited, isCarried, heardAfter, wonBy, keeps, follows, turned, acted, loadAfter, chosen, trial, counted, noTally, tallyOn, tallyOf, isRequest}
 use Rattle.charts.specs.View.{view, cellOf, mark, freshNode, seen, Sized}
@@ -100,6 +100,9 @@ module _ (us : ℕ → User) (k : ℕ) (b : Bus) (left heard filled made : List 
     (ok : Allowed us (b .n)) (stands : Stands us k b left heard filled made t) (marked : Marked b full stray) where
   pub valid-now : valid (view b) ≡ true
   valid-now = ap (λ l. valid (l .state)) (stands .load) ∙ ran us (b .n) (ok .two) (ok .small) (ok .fine) k .valid-is
+
+  pub unasked-now : false ≡ someAsked (view b)
+  unasked-now = sym (ap (λ l. someAsked (l .state)) (stands .load) ∙ ran us (b .n) (ok .two) (ok .small) (ok .fine) k .unasked)
 
   next-place : nextOf (b .phase) < 63
   unfolding view

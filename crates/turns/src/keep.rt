@@ -27,12 +27,21 @@ const PASS: u8 = 5;
 
 const LOSE: u8 = 6;
 
+// A byte, and that it is one.
+fn byte(x: u8) -> u8
+    ensures { λ r. ⌜ r ≡ x ⌝ }
+    ensures { λ r. ⌜ r < 256 ⌝ }
+{
+    x
+}
+
 // The element of node i, else 0 or no mark.
 fn number_at(l: &[u8], i: u8) -> u8
     ensures { λ r. ⌜ r ≡ at (now (l .entry)) i ⌝ }
+    ensures { λ r. ⌜ r < 256 ⌝ }
 {
     if (i as usize) < l.len() {
-        return l[i as usize];
+        return byte(l[i as usize]);
     }
     0
 }
@@ -65,6 +74,7 @@ pub fn user_at(
     i: u8,
 ) -> User
     ensures { λ r. ⌜ r ≡ userOf (now (spell .entry)) (now (address .entry)) (now (fillers .entry)) (now (hold .entry)) (now (period .entry)) i ⌝ }
+    ensures { λ r. ⌜ r .fillers < 256 ⌝ }
 {
     User {
         spell: number_at(spell, i),

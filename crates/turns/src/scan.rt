@@ -3,6 +3,7 @@ ghost use mathlib.Core.Path.{_≡_};
 ghost use mathlib.Core.Bool.{_&&_};
 ghost use Prim.Native.Nat.{_<_, _≤_};
 ghost use lib.Dec.{ltb, eqb};
+ghost use lib.ListN.{length};
 ghost use Rattle.charts.specs.State.{lowest, isIdle};
 ghost use Rattle.charts.specs.View.{mark};
 ghost use Rattle.bus.specs.Asking.{places};
@@ -30,6 +31,7 @@ pub fn is_stray(c: Cell) -> bool
 
 // These marks of all nodes. (An array lent as a slice tells its length: beyond it there is no mark.)
 pub fn fulls(nodes: [Node; 63]) -> [bool; 63]
+    ensures { λ r. ⌜ length r ≡ 63 ⌝ }
     ensures { λ r. ⌜ mark r ≡ fullIn nodes ⌝ }
 {
     let mut marks = [false; 63];
@@ -44,6 +46,7 @@ pub fn fulls(nodes: [Node; 63]) -> [bool; 63]
 }
 
 pub fn strays(nodes: [Node; 63], holder: &[bool; 63]) -> [bool; 63]
+    ensures { λ r. ⌜ length r ≡ 63 ⌝ }
     ensures { λ r. ⌜ mark r ≡ strayIn nodes (mark (now (holder .entry))) ⌝ }
 {
     let held: &[bool] = holder;

@@ -21,7 +21,7 @@ returns c =
     let size : length (a .left .now) ≡ 63 = search needs in
     let size-spell : length (a .spell .now) ≡ 63 = search needs in
     let e = c .put-number .ensures in
-    (ap length e ∙ length-set (a .left .now) _ _ ∙ size, ap at e ∙ begun (a .report) (a .spell .now) (a .left .now) _ _ size-spell size (c .before .before .before .before .winner .ensures) (c .before .number-at .ensures))
+    (ap length e ∙ length-set (a .left .now) _ _ ∙ size, ap at e ∙ begun (a .report) (a .spell .now) (a .left .now) _ _ size-spell size (c .before .before .before .before .winner .ensures) (c .before .number-at .ensures .0))
 
 pub begin-spell-spec : {M : Type 1} → statement M
 begin-spell-spec =

@@ -15,7 +15,7 @@ wide-at-requires : tie.Need-wide-at-requires
 wide-at-requires c κs = search needs
 
 returns : tie.Need-returns
-returns c = rw (c .wide-at .ensures, c .before .before .number-at3 .ensures, c .before .before .before .before .number-at2 .ensures, c .before .before .before .before .before .before .number-at .ensures)
+returns c = rw (c .wide-at .ensures, c .before .before .number-at3 .ensures .0, c .before .before .before .before .number-at2 .ensures .0, c .before .before .before .before .before .before .number-at .ensures .0)
 
 pub kept-at-spec : {M : Type 1} → statement M
 kept-at-spec =

@@ -18,7 +18,7 @@ number-at-requires-4 : tie.Need-number-at-requires-4
 number-at-requires-4 c κs = search needs
 
 returns : tie.Need-returns
-returns c = rw (c .number-at4 .ensures, c .before .before .mark-at .ensures, c .before .before .before .before .number-at3 .ensures, c .before .before .before .before .before .before .number-at2 .ensures, c .before .before .before .before .before .before .before .before .number-at .ensures)
+returns c = (rw (c .number-at4 .ensures .0, c .before .before .mark-at .ensures, c .before .before .before .before .number-at3 .ensures .0, c .before .before .before .before .before .before .number-at2 .ensures .0, c .before .before .before .before .before .before .before .before .number-at .ensures .0), c .before .before .before .before .number-at3 .ensures .1)
 
 pub user-at-spec : {M : Type 1} → statement M
 user-at-spec =

@@ -49,7 +49,7 @@ returns c =
     let a = c .before .before .args in
     let size : length (a .t1) ≡ 63 = search (needs, c .before .before .good, length-mapped) in
     let e : l .k ≡ 63 = omega arith in
-    all-put false (fullIn (a .t1)) (replicate 63 false) (l .marks) 63 refl (λ i h. ap (λ (x : Node). not (isEmpty (x .buffer))) (beyond freshNode (a .t1) 63 i size h)) (rw e at (l .inv .2))
+    (l .inv .1, all-put false (fullIn (a .t1)) (replicate 63 false) (l .marks) 63 refl (λ i h. ap (λ (x : Node). not (isEmpty (x .buffer))) (beyond freshNode (a .t1) 63 i size h)) (rw e at (l .inv .2)))
 
 pub fulls-spec : {M : Type 1} → statement M
 fulls-spec =

@@ -53,7 +53,7 @@ returns c =
     let a = c .before .before .before .args in
     let size : length (a .holder .now) ≡ 63 = search needs in
     let e : l .k ≡ 63 = omega arith in
-    all-put false (strayIn (a .t1) (mark (a .holder .now))) (replicate 63 false) (l .marks) 63 refl (λ i h. ap (λ b. b && isSpurious (getD (a .t1) i freshNode .mode)) (beyond false (a .holder .now) 63 i size h)) (rw e at (l .inv .2))
+    (l .inv .1, all-put false (strayIn (a .t1) (mark (a .holder .now))) (replicate 63 false) (l .marks) 63 refl (λ i h. ap (λ b. b && isSpurious (getD (a .t1) i freshNode .mode)) (beyond false (a .holder .now) 63 i size h)) (rw e at (l .inv .2)))
 
 pub strays-spec : {M : Type 1} → statement M
 strays-spec =
