@@ -77,23 +77,40 @@ abbrev pub ofFirst : ℕ → ℕ → ℕ
 ofFirst place field = cond (eqb place 1) field 0
 
 -- which field stands at a place of an action's line (1 is the place after its first word; 0 is what follows a `*`), by its number: 0 is the count, 1 and 2 are header and data,
--- the others take a byte
+-- 14 is the number of actions, the others take a byte. The fields of settings go by the name before them: `actions`, `user`, `to`, `spell`, `fillers` are 18 to 22, `lose` is 6
 unfoldable pub fieldOf : ℕ → ℕ → ℕ
 fieldOf kind place =
     cond (eqb kind 1) (cond (eqb place 1) 3 (cond (eqb place 2) 4 (cond (eqb place 3) 1 (cond (eqb place 4) 2 (cond (eqb place 6) 11 0)))))
     (cond (eqb kind 2) (ofFirst place 5)
     (cond (eqb kind 3) (cond (eqb place 1) 6 (cond (eqb place 2) 7 0))
     (cond (eqb kind 4) (ofFirst place 8)
+    (cond (eqb kind 6) (ofFirst place 19)
     (cond (eqb kind 7) (ofFirst place 9)
     (cond (eqb kind 11) (ofFirst place 12)
     (cond (eqb kind 12) (ofFirst place 13)
     (cond (eqb kind 13) (ofFirst place 10)
-    0)))))))
+    (cond (eqb kind 18) (ofFirst place 14)
+    (cond (eqb kind 19) (ofFirst place 15)
+    (cond (eqb kind 20) (ofFirst place 16)
+    (cond (eqb kind 21) (ofFirst place 17)
+    (cond (eqb kind 22) (ofFirst place 18)
+    0)))))))))))))
+
+-- of settings "THE FIELD is `the number of nodes`, `the number of actions`, […] or `the period of user`"
+unfoldable pub settingWords : ℕ → List ℕ
+settingWords field =
+    cond (eqb field 14) (ascii "the number of actions")
+    (cond (eqb field 15) (ascii "the node of user")
+    (cond (eqb field 16) (ascii "the address of user")
+    (cond (eqb field 17) (ascii "the spell of user")
+    (cond (eqb field 18) (ascii "the fillers of user")
+    (ascii "the period of user")))))
 
 -- "THE FIELD is `the node of clock`, […] or for what follows a `*` `the count after *`."
 unfoldable pub fieldWords : ℕ → List ℕ
 fieldWords field =
-    cond (eqb field 1) (ascii "the header of request")
+    cond (eqb field 0) (ascii "the count after *")
+    (cond (eqb field 1) (ascii "the header of request")
     (cond (eqb field 2) (ascii "the data of request")
     (cond (eqb field 3) (ascii "the node of request")
     (cond (eqb field 4) (ascii "the address of request")
@@ -106,11 +123,11 @@ fieldWords field =
     (cond (eqb field 11) (ascii "the label of request")
     (cond (eqb field 12) (ascii "the node of ask")
     (cond (eqb field 13) (ascii "the node of decide")
-    (ascii "the count after *")))))))))))))
+    (settingWords field))))))))))))))
 
--- "`, at most ` 255 or 4294967295"
+-- "`, at most ` 255 or 4294967295"; of settings "255 or 65535"
 abbrev pub mostWords : ℕ → List ℕ
-mostWords field = cond (ltb field 3) (ascii ", at most 4294967295") (ascii ", at most 255")
+mostWords field = cond (ltb field 3) (ascii ", at most 4294967295") (cond (eqb field 14) (ascii ", at most 65535") (ascii ", at most 255"))
 
 -- "`"WORD", ` THE FIELD"
 abbrev pub wordOf : List ℕ → ℕ → List ℕ

@@ -29,7 +29,8 @@ pub enum Cause {
     Plain,
     // The word is the cause.
     Quoted,
-    // The word and its field: the action's kind (11 is `nodes`) and the word's place in the line (the first word has 0, and so has what follows a `*`).
+    // The word and its field: of a run the name of the line's first word (an action's kind, or 13 for `nodes`) and the word's place in the line (the first
+    // word has 0, and so has what follows a `*`); of settings the name that stands before the word, and 1.
     Field(u8, u8),
     // The same, with the largest number that the field takes.
     Large(u8, u8),

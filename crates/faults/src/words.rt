@@ -5,7 +5,7 @@ ghost use Prim.Native.Nat.{_+_, _-_, _*_, _<_, _≤_};
 ghost use lib.ListN.{length, take, drop};
 ghost use Rattle.transcript.specs.Room.{Puts};
 ghost use Rattle.faults.specs.Faults.{faultWords, hexDigit, escaped, shownByte, shownBytes, shown, hasHere, has, hint, quoted};
-ghost use Rattle.faults.specs.Faults.{ofFirst, fieldOf, fieldWords, mostWords, wordOf, noneOf, causeWords, faultLine};
+ghost use Rattle.faults.specs.Faults.{ofFirst, fieldOf, settingWords, fieldWords, mostWords, wordOf, noneOf, causeWords, faultLine};
 use crate::Cause;
 use crate::Fault;
 use crate::write;
@@ -201,11 +201,33 @@ fn field_of(kind: u8, place: u8) -> u8
             _ => 0,
         },
         4 => of_first(place, 8),
+        6 => of_first(place, 19),
         7 => of_first(place, 9),
         11 => of_first(place, 12),
         12 => of_first(place, 13),
         13 => of_first(place, 10),
+        18 => of_first(place, 14),
+        19 => of_first(place, 15),
+        20 => of_first(place, 16),
+        21 => of_first(place, 17),
+        22 => of_first(place, 18),
         _ => 0,
+    }
+}
+
+// A field that settings alone have.
+fn put_setting(buf: &mut [u8], at: usize, field: u8) -> usize
+    requires { ⌜ at + 32 ≤ length (now buf) ⌝ }
+    ensures { λ r. ⌜ r ≤ at + 32 ⌝ }
+    ensures { λ r. ⌜ Puts (now (buf .entry)) at (settingWords field) r (now (buf .exit)) ⌝ }
+{
+    match field {
+        14 => write::put_word(buf, at, b"the number of actions"),
+        15 => write::put_word(buf, at, b"the node of user"),
+        16 => write::put_word(buf, at, b"the address of user"),
+        17 => write::put_word(buf, at, b"the spell of user"),
+        18 => write::put_word(buf, at, b"the fillers of user"),
+        _ => write::put_word(buf, at, b"the period of user"),
     }
 }
 
@@ -215,6 +237,7 @@ fn put_field(buf: &mut [u8], at: usize, field: u8) -> usize
     ensures { λ r. ⌜ Puts (now (buf .entry)) at (fieldWords field) r (now (buf .exit)) ⌝ }
 {
     match field {
+        0 => write::put_word(buf, at, b"the count after *"),
         1 => write::put_word(buf, at, b"the header of request"),
         2 => write::put_word(buf, at, b"the data of request"),
         3 => write::put_word(buf, at, b"the node of request"),
@@ -228,7 +251,7 @@ fn put_field(buf: &mut [u8], at: usize, field: u8) -> usize
         11 => write::put_word(buf, at, b"the label of request"),
         12 => write::put_word(buf, at, b"the node of ask"),
         13 => write::put_word(buf, at, b"the node of decide"),
-        _ => write::put_word(buf, at, b"the count after *"),
+        _ => put_setting(buf, at, field),
     }
 }
 
@@ -239,6 +262,9 @@ fn put_most(buf: &mut [u8], at: usize, field: u8) -> usize
 {
     if field < 3 {
         return write::put_word(buf, at, b", at most 4294967295");
+    }
+    if field == 14 {
+        return write::put_word(buf, at, b", at most 65535");
     }
     write::put_word(buf, at, b", at most 255")
 }

@@ -22,6 +22,24 @@ of-first-requires-5 c κs = search needs
 of-first-requires-6 : tie.Need-of-first-requires-6
 of-first-requires-6 c κs = search needs
 
+of-first-requires-7 : tie.Need-of-first-requires-7
+of-first-requires-7 c κs = search needs
+
+of-first-requires-8 : tie.Need-of-first-requires-8
+of-first-requires-8 c κs = search needs
+
+of-first-requires-9 : tie.Need-of-first-requires-9
+of-first-requires-9 c κs = search needs
+
+of-first-requires-10 : tie.Need-of-first-requires-10
+of-first-requires-10 c κs = search needs
+
+of-first-requires-11 : tie.Need-of-first-requires-11
+of-first-requires-11 c κs = search needs
+
+of-first-requires-12 : tie.Need-of-first-requires-12
+of-first-requires-12 c κs = search needs
+
 returns : tie.Need-returns
 unfolding fieldOf
 returns c = simp (c .before .match .keys1, c .match2 .keys1)
@@ -84,7 +102,31 @@ returns-15 c = simp (c .before .match .keys8, c .of-first6 .ensures)
 
 returns-16 : tie.Need-returns-16
 unfolding fieldOf
-returns-16 c = simp (ne-eqb _ _ (c .match .rest .0 .0 .0 .0 .0 .0 .0 .1), ne-eqb _ _ (c .match .rest .0 .0 .0 .0 .0 .0 .1), ne-eqb _ _ (c .match .rest .0 .0 .0 .0 .0 .1), ne-eqb _ _ (c .match .rest .0 .0 .0 .0 .1), ne-eqb _ _ (c .match .rest .0 .0 .0 .1), ne-eqb _ _ (c .match .rest .0 .0 .1), ne-eqb _ _ (c .match .rest .0 .1), ne-eqb _ _ (c .match .rest .1))
+returns-16 c = simp (c .before .match .keys9, c .of-first7 .ensures)
+
+returns-17 : tie.Need-returns-17
+unfolding fieldOf
+returns-17 c = simp (c .before .match .keys10, c .of-first8 .ensures)
+
+returns-18 : tie.Need-returns-18
+unfolding fieldOf
+returns-18 c = simp (c .before .match .keys11, c .of-first9 .ensures)
+
+returns-19 : tie.Need-returns-19
+unfolding fieldOf
+returns-19 c = simp (c .before .match .keys12, c .of-first10 .ensures)
+
+returns-20 : tie.Need-returns-20
+unfolding fieldOf
+returns-20 c = simp (c .before .match .keys13, c .of-first11 .ensures)
+
+returns-21 : tie.Need-returns-21
+unfolding fieldOf
+returns-21 c = simp (c .before .match .keys14, c .of-first12 .ensures)
+
+returns-22 : tie.Need-returns-22
+unfolding fieldOf
+returns-22 c = simp (ne-eqb _ _ (c .match .rest .0 .0 .0 .0 .0 .0 .0 .0 .0 .0 .0 .0 .0 .1), ne-eqb _ _ (c .match .rest .0 .0 .0 .0 .0 .0 .0 .0 .0 .0 .0 .0 .1), ne-eqb _ _ (c .match .rest .0 .0 .0 .0 .0 .0 .0 .0 .0 .0 .0 .1), ne-eqb _ _ (c .match .rest .0 .0 .0 .0 .0 .0 .0 .0 .0 .0 .1), ne-eqb _ _ (c .match .rest .0 .0 .0 .0 .0 .0 .0 .0 .0 .1), ne-eqb _ _ (c .match .rest .0 .0 .0 .0 .0 .0 .0 .0 .1), ne-eqb _ _ (c .match .rest .0 .0 .0 .0 .0 .0 .0 .1), ne-eqb _ _ (c .match .rest .0 .0 .0 .0 .0 .0 .1), ne-eqb _ _ (c .match .rest .0 .0 .0 .0 .0 .1), ne-eqb _ _ (c .match .rest .0 .0 .0 .0 .1), ne-eqb _ _ (c .match .rest .0 .0 .0 .1), ne-eqb _ _ (c .match .rest .0 .0 .1), ne-eqb _ _ (c .match .rest .0 .1), ne-eqb _ _ (c .match .rest .1))
 
 pub field-of-spec : {M : Type 1} → statement M
 field-of-spec =
@@ -96,6 +138,12 @@ field-of-spec =
     of-first-requires-4
     of-first-requires-5
     of-first-requires-6
+    of-first-requires-7
+    of-first-requires-8
+    of-first-requires-9
+    of-first-requires-10
+    of-first-requires-11
+    of-first-requires-12
     returns
     returns-2
     returns-3
@@ -111,4 +159,10 @@ field-of-spec =
     returns-13
     returns-14
     returns-15
-    returns-16)
+    returns-16
+    returns-17
+    returns-18
+    returns-19
+    returns-20
+    returns-21
+    returns-22)
