@@ -40,11 +40,15 @@ same [] (c ∷ m) = false
 same (b ∷ l) [] = false
 same (b ∷ l) (c ∷ m) = eqb b c && same l m
 
--- document 01's words of the ten kinds and the two of request 6, in the order of the kinds; then the five other words
+-- document 01's words of the ten kinds and the two of request 6, in the order of the kinds; then the five other words of runs, and the five that settings alone have
 abbrev pub names : List (List ℕ)
 names =
     ascii "request" ∷ ascii "arbitrate" ∷ ascii "respond" ∷ ascii "clock" ∷ ascii "pass" ∷ ascii "lose" ∷ ascii "change" ∷ ascii "grant" ∷ ascii "gap"
-    ∷ ascii "reset" ∷ ascii "ask" ∷ ascii "decide" ∷ ascii "nodes" ∷ ascii "all" ∷ ascii "hold" ∷ ascii "*" ∷ ascii "label" ∷ []
+    ∷ ascii "reset" ∷ ascii "ask" ∷ ascii "decide" ∷ ascii "nodes" ∷ ascii "all" ∷ ascii "hold" ∷ ascii "*" ∷ ascii "label" ∷ ascii "actions"
+    ∷ ascii "user" ∷ ascii "to" ∷ ascii "spell" ∷ ascii "fillers" ∷ []
+
+abbrev pub lose : ℕ
+lose = 6
 
 abbrev pub nodes : ℕ
 nodes = 13
@@ -60,6 +64,21 @@ times = 16
 
 abbrev pub label : ℕ
 label = 17
+
+abbrev pub actions : ℕ
+actions = 18
+
+abbrev pub user : ℕ
+user = 19
+
+abbrev pub to : ℕ
+to = 20
+
+abbrev pub spell : ℕ
+spell = 21
+
+abbrev pub fillers : ℕ
+fillers = 22
 
 -- the place of a word among names of which the first has place k; 0 for an unknown word
 abbrev pub placeIn : ℕ → List (List ℕ) → List ℕ → ℕ

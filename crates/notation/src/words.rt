@@ -7,6 +7,8 @@ ghost use lib.ListN.{length, take, drop, getD};
 ghost use Rattle.notation.specs.Words.{isBlank, endsWord, same, names, nameOf, digitOf, digitsOf, isHex, tokenOf, limit, capped, valueOf};
 ghost use Rattle.notation.specs.Cursors.{tokensLeft, stepped};
 
+pub(crate) const LOSE: u8 = 6;
+
 pub(crate) const NODES: u8 = 13;
 
 pub(crate) const ALL: u8 = 14;
@@ -16,6 +18,16 @@ pub(crate) const HOLD: u8 = 15;
 pub(crate) const TIMES: u8 = 16;
 
 pub(crate) const LABEL: u8 = 17;
+
+pub(crate) const ACTIONS: u8 = 18;
+
+pub(crate) const USER: u8 = 19;
+
+pub(crate) const TO: u8 = 20;
+
+pub(crate) const SPELL: u8 = 21;
+
+pub(crate) const FILLERS: u8 = 22;
 
 const LIMIT: u64 = 4294967296;
 
@@ -76,7 +88,7 @@ fn is_same(a: &[u8], b: &[u8]) -> bool
 
 // Whether a word is the name with that place.
 fn is_name(w: &[u8], k: u8) -> bool
-    requires { ⌜ k < 17 ⌝ }
+    requires { ⌜ k < 22 ⌝ }
     ensures { λ r. ⌜ r ≡ same (now (w .entry)) (getD names k []) ⌝ }
 {
     match k {
@@ -96,16 +108,21 @@ fn is_name(w: &[u8], k: u8) -> bool
         13 => is_same(w, b"all"),
         14 => is_same(w, b"hold"),
         15 => is_same(w, b"*"),
-        _ => is_same(w, b"label"),
+        16 => is_same(w, b"label"),
+        17 => is_same(w, b"actions"),
+        18 => is_same(w, b"user"),
+        19 => is_same(w, b"to"),
+        20 => is_same(w, b"spell"),
+        _ => is_same(w, b"fillers"),
     }
 }
 
 // A word's name: its place among the names from 1, or 0.
-fn name(w: &[u8]) -> u8
+pub(crate) fn name(w: &[u8]) -> u8
     ensures { λ r. ⌜ r ≡ nameOf (now (w .entry)) ⌝ }
 {
     let mut k: u8 = 0;
-    while k < 17 {
+    while k < 22 {
         if is_name(w, k) {
             return k + 1;
         }

@@ -106,6 +106,36 @@ slice-aggregate-is-same-17 c = search needs
 is-same-requires-17 : tie.Need-is-same-requires-17
 is-same-requires-17 c κs = search needs
 
+slice-aggregate-is-same-18 : tie.Need-slice-aggregate-is-same-18
+slice-aggregate-is-same-18 c = search needs
+
+is-same-requires-18 : tie.Need-is-same-requires-18
+is-same-requires-18 c κs = search needs
+
+slice-aggregate-is-same-19 : tie.Need-slice-aggregate-is-same-19
+slice-aggregate-is-same-19 c = search needs
+
+is-same-requires-19 : tie.Need-is-same-requires-19
+is-same-requires-19 c κs = search needs
+
+slice-aggregate-is-same-20 : tie.Need-slice-aggregate-is-same-20
+slice-aggregate-is-same-20 c = search needs
+
+is-same-requires-20 : tie.Need-is-same-requires-20
+is-same-requires-20 c κs = search needs
+
+slice-aggregate-is-same-21 : tie.Need-slice-aggregate-is-same-21
+slice-aggregate-is-same-21 c = search needs
+
+is-same-requires-21 : tie.Need-is-same-requires-21
+is-same-requires-21 c κs = search needs
+
+slice-aggregate-is-same-22 : tie.Need-slice-aggregate-is-same-22
+slice-aggregate-is-same-22 c = search needs
+
+is-same-requires-22 : tie.Need-is-same-requires-22
+is-same-requires-22 c κs = search needs
+
 returns : tie.Need-returns
 returns c = simp (c .before .before .match .keys1, c .is-same .ensures)
 
@@ -155,13 +185,28 @@ returns-16 : tie.Need-returns-16
 returns-16 c = simp (c .before .before .match .keys16, c .is-same16 .ensures)
 
 returns-17 : tie.Need-returns-17
-returns-17 c =
+returns-17 c = simp (c .before .before .match .keys17, c .is-same17 .ensures)
+
+returns-18 : tie.Need-returns-18
+returns-18 c = simp (c .before .before .match .keys18, c .is-same18 .ensures)
+
+returns-19 : tie.Need-returns-19
+returns-19 c = simp (c .before .before .match .keys19, c .is-same19 .ensures)
+
+returns-20 : tie.Need-returns-20
+returns-20 c = simp (c .before .before .match .keys20, c .is-same20 .ensures)
+
+returns-21 : tie.Need-returns-21
+returns-21 c = simp (c .before .before .match .keys21, c .is-same21 .ensures)
+
+returns-22 : tie.Need-returns-22
+returns-22 c =
     let r = c .before .before .match .rest in
     let k = c .before .before .before .before .args .k in
-    let last : 16 ≤ k =
-    above 15 (above 14 (above 13 (above 12 (above 11 (above 10 (above 9 (above 8 (above 7 (above 6 (above 5 (above 4 (above 3 (above 2 (above 1 (above 0 (search needs) (r .0 .0 .0 .0 .0 .0 .0 .0 .0 .0 .0 .0 .0 .0 .0 .1)) (r .0 .0 .0 .0 .0 .0 .0 .0 .0 .0 .0 .0 .0 .0 .1)) (r .0 .0 .0 .0 .0 .0 .0 .0 .0 .0 .0 .0 .0 .1)) (r .0 .0 .0 .0 .0 .0 .0 .0 .0 .0 .0 .0 .1)) (r .0 .0 .0 .0 .0 .0 .0 .0 .0 .0 .0 .1)) (r .0 .0 .0 .0 .0 .0 .0 .0 .0 .0 .1)) (r .0 .0 .0 .0 .0 .0 .0 .0 .0 .1)) (r .0 .0 .0 .0 .0 .0 .0 .0 .1)) (r .0 .0 .0 .0 .0 .0 .0 .1)) (r .0 .0 .0 .0 .0 .0 .1)) (r .0 .0 .0 .0 .0 .1)) (r .0 .0 .0 .0 .1)) (r .0 .0 .0 .1)) (r .0 .0 .1)) (r .0 .1)) (r .1)
+    let last : 21 ≤ k =
+    above 20 (above 19 (above 18 (above 17 (above 16 (above 15 (above 14 (above 13 (above 12 (above 11 (above 10 (above 9 (above 8 (above 7 (above 6 (above 5 (above 4 (above 3 (above 2 (above 1 (above 0 (search needs) (r .0 .0 .0 .0 .0 .0 .0 .0 .0 .0 .0 .0 .0 .0 .0 .0 .0 .0 .0 .0 .1)) (r .0 .0 .0 .0 .0 .0 .0 .0 .0 .0 .0 .0 .0 .0 .0 .0 .0 .0 .0 .1)) (r .0 .0 .0 .0 .0 .0 .0 .0 .0 .0 .0 .0 .0 .0 .0 .0 .0 .0 .1)) (r .0 .0 .0 .0 .0 .0 .0 .0 .0 .0 .0 .0 .0 .0 .0 .0 .0 .1)) (r .0 .0 .0 .0 .0 .0 .0 .0 .0 .0 .0 .0 .0 .0 .0 .0 .1)) (r .0 .0 .0 .0 .0 .0 .0 .0 .0 .0 .0 .0 .0 .0 .0 .1)) (r .0 .0 .0 .0 .0 .0 .0 .0 .0 .0 .0 .0 .0 .0 .1)) (r .0 .0 .0 .0 .0 .0 .0 .0 .0 .0 .0 .0 .0 .1)) (r .0 .0 .0 .0 .0 .0 .0 .0 .0 .0 .0 .0 .1)) (r .0 .0 .0 .0 .0 .0 .0 .0 .0 .0 .0 .1)) (r .0 .0 .0 .0 .0 .0 .0 .0 .0 .0 .1)) (r .0 .0 .0 .0 .0 .0 .0 .0 .0 .1)) (r .0 .0 .0 .0 .0 .0 .0 .0 .1)) (r .0 .0 .0 .0 .0 .0 .0 .1)) (r .0 .0 .0 .0 .0 .0 .1)) (r .0 .0 .0 .0 .0 .1)) (r .0 .0 .0 .0 .1)) (r .0 .0 .0 .1)) (r .0 .0 .1)) (r .0 .1)) (r .1)
     in
-    rw (only-last last (c .before .before .before .before .pre)) (c .is-same17 .ensures)
+    rw (only-last last (c .before .before .before .before .pre)) (c .is-same22 .ensures)
 
 pub is-name-spec : {M : Type 1} → statement M
 is-name-spec =
@@ -201,6 +246,16 @@ is-name-spec =
     is-same-requires-16
     slice-aggregate-is-same-17
     is-same-requires-17
+    slice-aggregate-is-same-18
+    is-same-requires-18
+    slice-aggregate-is-same-19
+    is-same-requires-19
+    slice-aggregate-is-same-20
+    is-same-requires-20
+    slice-aggregate-is-same-21
+    is-same-requires-21
+    slice-aggregate-is-same-22
+    is-same-requires-22
     returns
     returns-2
     returns-3
@@ -217,4 +272,9 @@ is-name-spec =
     returns-14
     returns-15
     returns-16
-    returns-17)
+    returns-17
+    returns-18
+    returns-19
+    returns-20
+    returns-21
+    returns-22)
