@@ -186,8 +186,14 @@ module _ (s : State) (v : valid s ≡ true) where
         go k l q false e = refl
 
     alone : (i : ℕ) → i < s .n → active (placeOf (s .cell i .mode)) ≡ true → isSpurious (s .cell i .mode) ≡ false → ((k : ℕ) → k < s .n → active (placeOf (s .cell k .mode)) ≡ true → k ≡ i) → HoldsAlone s
-    alone i l e z u = record { node = i; here = l; holds = r .marks i .1 ∙ e; alone = sole-holder i u; mode =
-      implied _ _ (implied (active (placeOf (s .cell i .mode))) _ (law-mode (λ p. implies (active p) (implies (not (eqb p P.spurious)) (eqb p P.sending || (eqb p P.answering || (eqb p P.acking || eqb p P.holding))))) tt (s .cell i .mode)) e) (ap not z) }
+    alone i l e z u = record {
+      node = i;
+      here = l;
+      holds = r .marks i .1 ∙ e;
+      alone = sole-holder i u;
+      mode =
+          implied _ _ (implied (active (placeOf (s .cell i .mode))) _ (law-mode (λ p. implies (active p) (implies (not (eqb p P.spurious)) (eqb p P.sending || (eqb p P.answering || (eqb p P.acking || eqb p P.holding))))) tt (s .cell i .mode)) e) (ap not z);
+    }
 
     stray-at : (i : ℕ) → i < s .n → isSpurious (s .cell i .mode) ≡ true → some (strays s) (s .n) ≡ true
     stray-at i l z = some-at (strays s) (s .n) i l (both _ _ (r .marks i .1 ∙ ap active (eqb-true (placeOf (s .cell i .mode)) P.spurious z)) z)

@@ -123,7 +123,7 @@ module _ (us : ℕ → User) (n : ℕ) (two : 2 ≤ n) (small : n ≤ 63) (fine 
     two = let e = n-is k in omega arith;
     unasked = some-none (askers (load k .state .cell)) (load k .state .n) (unasked k);
     rests = λ e i l. subst (λ s. isAsked (s .cell i .mode) ≡ false → isRest (s .cell i .mode) ≡ true) (sym (bus-is us n k))
-      (λ u. ⊎-elim (λ q. ap isRest q) (λ q. clash _ (ap isAsked q) u) (demand-3 n two small (trial us n k) .rests (ap (λ s. isIdle (s .phase)) (sym (bus-is us n k)) ∙ e) i (in-n k i l))) (unasked k i l);
+        (λ u. ⊎-elim (λ q. ap isRest q) (λ q. clash _ (ap isAsked q) u) (demand-3 n two small (trial us n k) .rests (ap (λ s. isIdle (s .phase)) (sym (bus-is us n k)) ∙ e) i (in-n k i l))) (unasked k i l);
     held = subst HeldIfBusy (sym (bus-is us n k)) (busy-held-of n two small (trial us n k));
   }
 
@@ -278,8 +278,16 @@ module _ (us : ℕ → User) (n : ℕ) (two : 2 ≤ n) (small : n ≤ 63) (fine 
   waits-kept w h = by-test (onlyWaits l) yes (λ e. absurd (let z : waits l ≡ 0 = waits-none l e in omega arith))
     where
       yes : onlyWaits l ≡ true → Quiet w
-      yes e = let x = is-waiting l e in (x .idle, λ i m. (all-empty l x i (here i m), (none-of (wons (s .cell)) (s .n) (x .unwon) i (here i m),
-          over-is us n i k w ∙ lt-leb (l .kept i .left) w (let z = least-le (lefts l) (s .n) i (here i m) in let y : waits l ≡ least (lefts l) (s .n) = ap (λ b. cond b (least (lefts l) (s .n)) 0) e in omega arith))))
+      yes e = let x = is-waiting l e in (
+        x .idle,
+        λ i m. (
+          all-empty l x i (here i m),
+          (
+            none-of (wons (s .cell)) (s .n) (x .unwon) i (here i m),
+            over-is us n i k w ∙ lt-leb (l .kept i .left) w (let z = least-le (lefts l) (s .n) i (here i m) in let y : waits l ≡ least (lefts l) (s .n) = ap (λ b. cond b (least (lefts l) (s .n)) 0) e in omega arith),
+          ),
+        ),
+      )
 
   nobody-over : some (asking now) (now .state .n) ≡ false → (i : ℕ) → i < n → isEmpty (s .cell i .buffer) ≡ true → isPast (us i .spell) i (waits l) before ≡ false
   unfolding waited

@@ -78,7 +78,7 @@ pub record Keeps (us : ℕ → User) (n : ℕ) (t : Turn) (l : List Turn) : Type
   pub opens : isOpen (t .before) (t .action) ≡ true
   -- "where only waiting is left, idle spells run down without an action": while they do, the bus is Idle, no buffer is full, no node is marked won, and no spell is over
   pub waits : (w : ℕ) → w < t .waited → (isIdle (t .before .phase) ≡ true) × ((i : ℕ) → i < n →
-    (isEmpty (t .before .cell i .buffer) ≡ true) × ((t .before .cell i .won ≡ false) × (isPast (us i .spell) i w l ≡ false)))
+      (isEmpty (t .before .cell i .buffer) ≡ true) × ((t .before .cell i .won ≡ false) × (isPast (us i .spell) i w l ≡ false)))
   -- "It arbitrates only to win"
   pub wins : eqb (kindOf t) 2 ≡ true → reportOf t ≡ Won (nodeOf t)
   -- "resets only where no full buffer lacks the won mark"
