@@ -1,4 +1,4 @@
--- An action's printed line is read as that action. Assumes nothing.
+-- An action's printed line is read, in a run, as that action. Assumes nothing.
 use mathlib.Core.Path.{_≡_, refl, ap, _∙_}
 use mathlib.Core.Bool.{Bool, true, false, cond, _&&_, _||_, not}
 use mathlib.Core.List.{List, [], _∷_}
@@ -19,9 +19,10 @@ use Rattle.transcript.specs.Text.{ascii, decimal}
 use Rattle.transcript.proofs.Decimals.{decimal-short}
 use Rattle.notation.specs.declared.words.Token.{Token}
 use Rattle.notation.specs.declared.words.Token.the-variants.{Word, Number}
+use Rattle.notation.specs.declared.Text.the-variants.{Run}
 use Rattle.notation.specs.declared.Line.the-variants.{Acts}
 use Rattle.notation.specs.Words.{tokenOf, nameOf, digitOf}
-use Rattle.notation.specs.Grammar.{got, recordOf, labelIn, numberIn, addressIn, addressOrNone, holdIn, endingOf, requestOf, nodeOf, respondOf, changeOf, actionOf, namedOf, saidBy, lineOf}
+use Rattle.notation.specs.Grammar.{got, recordOf, optionIn, saidIn, numberIn, addressIn, addressOrNone, endingOf, requestOf, nodeOf, respondOf, changeOf, actionOf, restOf, namedOf, saidBy, lineOf}
 use Rattle.notation.specs.Lines.{spaced}
 use Rattle.transcript.specs.Printed.{addressWord, labelWords, holdWord, changeWord, wordsFor}
 use Rattle.notation.proofs.Spaced.{Good, good-by, said-line}
@@ -140,14 +141,14 @@ address-word x h = go (eqb x everybody) refl
     go false e = record { good = decimal-good x; short = decimal-short 2 x (omega arith); token = rw e (token-decimal x (omega arith)) }
 
 -- what the words of each form say; the label of a request is what l, the words after its data, say
-say-request : (node address label header datum : ℕ) (l : List Token) → node < 256 → address < 256 → header < 4294967296 → datum < 4294967296 → labelIn l ≡ got label []
-    → saidBy (Word 1 ∷ Number node ∷ cond (eqb address everybody) (Word 14) (Number address) ∷ Number header ∷ Number datum ∷ l)
+say-request : (node address label header datum : ℕ) (l : List Token) → node < 256 → address < 256 → header < 4294967296 → datum < 4294967296 → saidIn 17 l ≡ got label []
+    → saidBy Run (Word 1 ∷ Number node ∷ cond (eqb address everybody) (Word 14) (Number address) ∷ Number header ∷ Number datum ∷ l)
     ≡ Acts (recordOf 1 node address 0 0 label header datum) 1
-unfolding saidBy namedOf actionOf requestOf numberIn addressIn endingOf
+unfolding saidBy namedOf restOf actionOf requestOf numberIn addressIn endingOf
 say-request node address label header datum l p q r s t = go (eqb address everybody) refl
   where
     go : (b : Bool) → eqb address everybody ≡ b
-        → saidBy (Word 1 ∷ Number node ∷ cond b (Word 14) (Number address) ∷ Number header ∷ Number datum ∷ l) ≡ Acts (recordOf 1 node address 0 0 label header datum) 1
+        → saidBy Run (Word 1 ∷ Number node ∷ cond b (Word 14) (Number address) ∷ Number header ∷ Number datum ∷ l) ≡ Acts (recordOf 1 node address 0 0 label header datum) 1
     go true e =
         let n1 = le-leb node 255 (omega arith) in
         let n3 = le-leb header 4294967295 (omega arith) in
@@ -160,33 +161,33 @@ say-request node address label header datum l p q r s t = go (eqb address everyb
         let n4 = le-leb datum 4294967295 (omega arith) in
         rw (n1, n2, n3, n4, t)
 
-no-label : labelIn [] ≡ got 0 []
-unfolding labelIn
+no-label : saidIn 17 [] ≡ got 0 []
+unfolding optionIn
 no-label = refl
 
-say-label : (label : ℕ) → label < 256 → labelIn (Word 17 ∷ Number label ∷ []) ≡ got label []
-unfolding labelIn numberIn
+say-label : (label : ℕ) → label < 256 → saidIn 17 (Word 17 ∷ Number label ∷ []) ≡ got label []
+unfolding optionIn numberIn
 say-label label p = rw (le-leb label 255 (omega arith))
 
-say-respond : (node ack : ℕ) → node < 256 → ack < 256 → saidBy (Word 3 ∷ Number node ∷ Number ack ∷ []) ≡ Acts (recordOf 3 node 0 ack 0 0 0 0) 1
-unfolding saidBy namedOf actionOf respondOf numberIn holdIn endingOf
+say-respond : (node ack : ℕ) → node < 256 → ack < 256 → saidBy Run (Word 3 ∷ Number node ∷ Number ack ∷ []) ≡ Acts (recordOf 3 node 0 ack 0 0 0 0) 1
+unfolding saidBy namedOf restOf actionOf respondOf numberIn optionIn endingOf
 say-respond node ack p q = rw (le-leb node 255 (omega arith), le-leb ack 255 (omega arith))
 
-say-hold : (node ack : ℕ) → node < 256 → ack < 256 → saidBy (Word 3 ∷ Number node ∷ Number ack ∷ Word 15 ∷ []) ≡ Acts (recordOf 3 node 0 ack 1 0 0 0) 1
-unfolding saidBy namedOf actionOf respondOf numberIn holdIn endingOf
+say-hold : (node ack : ℕ) → node < 256 → ack < 256 → saidBy Run (Word 3 ∷ Number node ∷ Number ack ∷ Word 15 ∷ []) ≡ Acts (recordOf 3 node 0 ack 1 0 0 0) 1
+unfolding saidBy namedOf restOf actionOf respondOf numberIn optionIn endingOf
 say-hold node ack p q = rw (le-leb node 255 (omega arith), le-leb ack 255 (omega arith))
 
 say-change : (address : ℕ) → address < 256
-    → saidBy (Word 7 ∷ cond (eqb address everybody) (Word 14) (Number address) ∷ []) ≡ Acts (recordOf 7 0 address 0 0 0 0 0) 1
-unfolding saidBy namedOf actionOf changeOf addressOrNone endingOf
+    → saidBy Run (Word 7 ∷ cond (eqb address everybody) (Word 14) (Number address) ∷ []) ≡ Acts (recordOf 7 0 address 0 0 0 0 0) 1
+unfolding saidBy namedOf restOf actionOf changeOf addressOrNone endingOf
 say-change address p = go (eqb address everybody) refl
   where
-    go : (b : Bool) → eqb address everybody ≡ b → saidBy (Word 7 ∷ cond b (Word 14) (Number address) ∷ []) ≡ Acts (recordOf 7 0 address 0 0 0 0 0) 1
+    go : (b : Bool) → eqb address everybody ≡ b → saidBy Run (Word 7 ∷ cond b (Word 14) (Number address) ∷ []) ≡ Acts (recordOf 7 0 address 0 0 0 0 0) 1
     go true e = rw (eqb-true address everybody e)
     go false e = rw (le-leb address 255 (omega arith))
 
-bare-change : saidBy (Word 7 ∷ []) ≡ Acts (recordOf 7 0 0 0 0 0 0 0) 1
-unfolding saidBy namedOf actionOf changeOf addressOrNone endingOf
+bare-change : saidBy Run (Word 7 ∷ []) ≡ Acts (recordOf 7 0 0 0 0 0 0 0) 1
+unfolding saidBy namedOf restOf actionOf changeOf addressOrNone endingOf
 bare-change = refl
 
 -- a kind's record, where the other fields are 0
@@ -196,11 +197,11 @@ module _ (a : Action) (f : Fits a) (s : Shown a) where
 
   -- "`pass`, `lose`, […] `grant`, `gap`, `reset`"
   bare : (k : ℕ) (w : List ℕ) → a .kind ≡ k → wordsFor a ≡ w ∷ [] → Good w → length w ≤ 9 → tokenOf w ≡ Word k
-      → saidBy (Word k ∷ []) ≡ Acts (recordOf k 0 0 0 0 0 0 0) 1
-      → namesNode k ≡ false → namesAddress k ≡ false → namesAnswer k ≡ false → namesPacket k ≡ false → lineOf (spaced (wordsFor a)) ≡ Acts a 1
+      → saidBy Run (Word k ∷ []) ≡ Acts (recordOf k 0 0 0 0 0 0 0) 1
+      → namesNode k ≡ false → namesAddress k ≡ false → namesAnswer k ≡ false → namesPacket k ≡ false → lineOf Run (spaced (wordsFor a)) ≡ Acts a 1
   bare k w e words good short token says nn na nk np =
       rw words
-      (said-line (w ∷ []) (good, tt) (omega arith)
+      (said-line Run (w ∷ []) (good, tt) (omega arith)
       ∙ (rw token says
       ∙ ap (λ (x : Action). Acts x 1)
       (same-action a k 0 0 0 0 0 0 0 0 0 e (z .node (rw e nn)) (z .address (rw e na)) (z .ack (rw e nk)) (z .hold (rw e nk)) (z .label (rw e np)) (z .six) (z .seven)
@@ -208,13 +209,13 @@ module _ (a : Action) (f : Fits a) (s : Shown a) where
 
   -- "`arbitrate 0`", "`clock 0`"; "`ask NODE`", "`decide NODE`"
   of-node : (k : ℕ) (w : List ℕ) → a .kind ≡ k → wordsFor a ≡ w ∷ decimal (a .node) ∷ [] → Good w → length w ≤ 9 → tokenOf w ≡ Word k
-      → saidBy (Word k ∷ Number (a .node) ∷ []) ≡ Acts (recordOf k (a .node) 0 0 0 0 0 0) 1
-      → namesAddress k ≡ false → namesAnswer k ≡ false → namesPacket k ≡ false → lineOf (spaced (wordsFor a)) ≡ Acts a 1
+      → saidBy Run (Word k ∷ Number (a .node) ∷ []) ≡ Acts (recordOf k (a .node) 0 0 0 0 0 0) 1
+      → namesAddress k ≡ false → namesAnswer k ≡ false → namesPacket k ≡ false → lineOf Run (spaced (wordsFor a)) ≡ Acts a 1
   of-node k w e words good short token says na nk np =
       let small = f .node-fits in
       let few = decimal-short 2 (a .node) (omega arith) in
       rw words
-      (said-line (w ∷ decimal (a .node) ∷ []) (good, (decimal-good (a .node), tt)) (omega arith)
+      (said-line Run (w ∷ decimal (a .node) ∷ []) (good, (decimal-good (a .node), tt)) (omega arith)
       ∙ (rw (token, token-decimal (a .node) (omega arith)) says
       ∙ ap (λ (x : Action). Acts x 1)
       (same-action a k (a .node) 0 0 0 0 0 0 0 0 e refl (z .address (rw e na)) (z .ack (rw e nk)) (z .hold (rw e nk)) (z .label (rw e np)) (z .six) (z .seven)
@@ -225,7 +226,7 @@ module _ (a : Action) (f : Fits a) (s : Shown a) where
   unfolding wordsFor
   request-words e = rw e
 
-  request : a .kind ≡ 1 → lineOf (spaced (wordsFor a)) ≡ Acts a 1
+  request : a .kind ≡ 1 → lineOf Run (spaced (wordsFor a)) ≡ Acts a 1
   request e = rw (request-words e) (go (eqb (a .label) 0) refl)
     where
       to : Address (a .address) (addressWord (a .address))
@@ -235,7 +236,7 @@ module _ (a : Action) (f : Fits a) (s : Shown a) where
       whole label h = same-action a 1 (a .node) (a .address) 0 0 label 0 0 (a .header) (a .datum) e refl refl (z .ack (rw e)) (z .hold (rw e)) h (z .six) (z .seven) refl refl
 
       go : (b : Bool) → eqb (a .label) 0 ≡ b
-          → lineOf (spaced (ascii "request" ∷ decimal (a .node) ∷ addressWord (a .address) ∷ decimal (a .header) ∷ decimal (a .datum) ∷ cond b [] (ascii "label" ∷ decimal (a .label) ∷ []))) ≡ Acts a 1
+          → lineOf Run (spaced (ascii "request" ∷ decimal (a .node) ∷ addressWord (a .address) ∷ decimal (a .header) ∷ decimal (a .datum) ∷ cond b [] (ascii "label" ∷ decimal (a .label) ∷ []))) ≡ Acts a 1
       go true h =
           let sn = f .node-fits in
           let sh = f .header-fits in
@@ -244,7 +245,7 @@ module _ (a : Action) (f : Fits a) (s : Shown a) where
           let l1 = decimal-short 2 (a .node) (omega arith) in
           let l2 = decimal-short 9 (a .header) (omega arith) in
           let l3 = decimal-short 9 (a .datum) (omega arith) in
-          said-line (ascii "request" ∷ decimal (a .node) ∷ addressWord (a .address) ∷ decimal (a .header) ∷ decimal (a .datum) ∷ [])
+          said-line Run (ascii "request" ∷ decimal (a .node) ∷ addressWord (a .address) ∷ decimal (a .header) ∷ decimal (a .datum) ∷ [])
           (good-by _ _ refl, (decimal-good (a .node), (to .good, (decimal-good (a .header), (decimal-good (a .datum), tt))))) (omega arith)
           ∙ (rw (token-request, token-decimal (a .node) (omega arith), to .token, token-decimal (a .header) sh, token-decimal (a .datum) sd)
           (say-request (a .node) (a .address) 0 (a .header) (a .datum) [] sn (f .address-fits) sh sd no-label)
@@ -259,7 +260,7 @@ module _ (a : Action) (f : Fits a) (s : Shown a) where
           let l2 = decimal-short 9 (a .header) (omega arith) in
           let l3 = decimal-short 9 (a .datum) (omega arith) in
           let l4 = decimal-short 2 (a .label) (omega arith) in
-          said-line (ascii "request" ∷ decimal (a .node) ∷ addressWord (a .address) ∷ decimal (a .header) ∷ decimal (a .datum) ∷ ascii "label" ∷ decimal (a .label) ∷ [])
+          said-line Run (ascii "request" ∷ decimal (a .node) ∷ addressWord (a .address) ∷ decimal (a .header) ∷ decimal (a .datum) ∷ ascii "label" ∷ decimal (a .label) ∷ [])
           (good-by _ _ refl, (decimal-good (a .node), (to .good, (decimal-good (a .header), (decimal-good (a .datum), (good-by _ _ refl, (decimal-good (a .label), tt))))))) (omega arith)
           ∙ (rw (token-request, token-decimal (a .node) (omega arith), to .token, token-decimal (a .header) sh, token-decimal (a .datum) sd, token-label, token-decimal (a .label) (omega arith))
           (say-request (a .node) (a .address) (a .label) (a .header) (a .datum) _ sn (f .address-fits) sh sd (say-label (a .label) sl))
@@ -269,7 +270,7 @@ module _ (a : Action) (f : Fits a) (s : Shown a) where
   unfolding wordsFor
   respond-words e = rw e
 
-  respond : a .kind ≡ 3 → lineOf (spaced (wordsFor a)) ≡ Acts a 1
+  respond : a .kind ≡ 3 → lineOf Run (spaced (wordsFor a)) ≡ Acts a 1
   respond e = rw (respond-words e) (go (eqb (a .hold) 0) refl)
     where
       sn : a .node < 256
@@ -282,13 +283,13 @@ module _ (a : Action) (f : Fits a) (s : Shown a) where
       held = ltb-true (a .hold) 2 (and-right (ltb (a .ack) 16) _ (s .answer))
 
       go : (b : Bool) → eqb (a .hold) 0 ≡ b
-          → lineOf (spaced (ascii "respond" ∷ decimal (a .node) ∷ decimal (a .ack) ∷ cond b [] (ascii "hold" ∷ []))) ≡ Acts a 1
+          → lineOf Run (spaced (ascii "respond" ∷ decimal (a .node) ∷ decimal (a .ack) ∷ cond b [] (ascii "hold" ∷ []))) ≡ Acts a 1
       go true h =
           let hn = sn in
           let hk = sk in
           let l1 = decimal-short 2 (a .node) (omega arith) in
           let l2 = decimal-short 2 (a .ack) (omega arith) in
-          said-line (ascii "respond" ∷ decimal (a .node) ∷ decimal (a .ack) ∷ []) (good-by _ _ refl, (decimal-good (a .node), (decimal-good (a .ack), tt))) (omega arith)
+          said-line Run (ascii "respond" ∷ decimal (a .node) ∷ decimal (a .ack) ∷ []) (good-by _ _ refl, (decimal-good (a .node), (decimal-good (a .ack), tt))) (omega arith)
           ∙ (rw (token-respond, token-decimal (a .node) (omega arith), token-decimal (a .ack) (omega arith)) (say-respond (a .node) (a .ack) sn sk)
           ∙ ap (λ (x : Action). Acts x 1)
           (same-action a 3 (a .node) 0 (a .ack) 0 0 0 0 0 0 e refl (z .address (rw e)) refl (eqb-true (a .hold) 0 h) (z .label (rw e)) (z .six) (z .seven)
@@ -301,7 +302,7 @@ module _ (a : Action) (f : Fits a) (s : Shown a) where
           let some = eqb-false (a .hold) 0 h in
           let few = held in
           let one : a .hold ≡ 1 = omega arith in
-          said-line (ascii "respond" ∷ decimal (a .node) ∷ decimal (a .ack) ∷ ascii "hold" ∷ [])
+          said-line Run (ascii "respond" ∷ decimal (a .node) ∷ decimal (a .ack) ∷ ascii "hold" ∷ [])
           (good-by _ _ refl, (decimal-good (a .node), (decimal-good (a .ack), (good-by _ _ refl, tt)))) (omega arith)
           ∙ (rw (token-respond, token-decimal (a .node) (omega arith), token-decimal (a .ack) (omega arith), token-hold) (say-hold (a .node) (a .ack) sn sk)
           ∙ ap (λ (x : Action). Acts x 1)
@@ -311,21 +312,21 @@ module _ (a : Action) (f : Fits a) (s : Shown a) where
   unfolding wordsFor
   change-words e = rw e
 
-  change : a .kind ≡ 7 → lineOf (spaced (wordsFor a)) ≡ Acts a 1
+  change : a .kind ≡ 7 → lineOf Run (spaced (wordsFor a)) ≡ Acts a 1
   change e = rw (change-words e) (go (eqb (a .address) 0) refl)
     where
       whole : (x : ℕ) → a .address ≡ x → recordOf 7 0 x 0 0 0 0 0 ≡ a
       whole x h =
           same-action a 7 0 x 0 0 0 0 0 0 0 e (z .node (rw e)) h (z .ack (rw e)) (z .hold (rw e)) (z .label (rw e)) (z .six) (z .seven) (z .header (rw e)) (z .datum (rw e))
 
-      go : (b : Bool) → eqb (a .address) 0 ≡ b → lineOf (spaced (ascii "change" ∷ cond b [] (addressWord (a .address) ∷ []))) ≡ Acts a 1
+      go : (b : Bool) → eqb (a .address) 0 ≡ b → lineOf Run (spaced (ascii "change" ∷ cond b [] (addressWord (a .address) ∷ []))) ≡ Acts a 1
       go true h =
-          said-line (ascii "change" ∷ []) (good-by _ _ refl, tt) (omega arith)
+          said-line Run (ascii "change" ∷ []) (good-by _ _ refl, tt) (omega arith)
           ∙ (rw token-change bare-change ∙ ap (λ (x : Action). Acts x 1) (whole 0 (eqb-true (a .address) 0 h)))
       go false h =
           let to = address-word (a .address) (f .address-fits) in
           let short = to .short in
-          said-line (ascii "change" ∷ addressWord (a .address) ∷ []) (good-by _ _ refl, (to .good, tt)) (omega arith)
+          said-line Run (ascii "change" ∷ addressWord (a .address) ∷ []) (good-by _ _ refl, (to .good, tt)) (omega arith)
           ∙ (rw (token-change, to .token) (say-change (a .address) (f .address-fits)) ∙ ap (λ (x : Action). Acts x 1) (whole (a .address) refl))
 
 -- a property of the twelve kinds
@@ -347,13 +348,13 @@ twelve P p1 p2 p3 p4 p5 p6 p7 p8 p9 p10 p11 p12 (suc (suc (suc (suc (suc (suc (s
     absurd (let small = ltb-true (suc (suc (suc (suc (suc (suc (suc (suc (suc (suc (suc (suc (suc k))))))))))))) 13 (and-right (ltb 0 (suc (suc (suc (suc (suc (suc (suc (suc (suc (suc (suc (suc (suc k)))))))))))))) _ h) in omega arith)
 
 -- for every action record that the writer takes for some n, its printed line says that action, once
-pub line-back : (n : ℕ) (a : Action) (m : Move) → Fits a → read n a ≡ D.Accepted m → lineOf (spaced (wordsFor a)) ≡ Acts a 1
-unfolding wordsFor saidBy namedOf actionOf nodeOf numberIn endingOf tokenOf nameOf digitOf
+pub line-back : (n : ℕ) (a : Action) (m : Move) → Fits a → read n a ≡ D.Accepted m → lineOf Run (spaced (wordsFor a)) ≡ Acts a 1
+unfolding wordsFor saidBy namedOf restOf actionOf nodeOf numberIn endingOf tokenOf nameOf digitOf
 line-back n a m f h =
     let s = shown n a m h in
     let small = f .node-fits in
     let fits = le-leb (a .node) 255 (omega arith) in
-    twelve (λ (k : ℕ). a .kind ≡ k → lineOf (spaced (wordsFor a)) ≡ Acts a 1)
+    twelve (λ (k : ℕ). a .kind ≡ k → lineOf Run (spaced (wordsFor a)) ≡ Acts a 1)
     (request a f s)
     (λ e. of-node a f s 2 (ascii "arbitrate") e (rw e) (good-by _ _ refl) (omega arith) refl (rw fits) refl refl refl)
     (respond a f s)

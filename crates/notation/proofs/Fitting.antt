@@ -12,17 +12,22 @@ use Rattle.charts.specs.declared.Action.{Action}
 use Rattle.record.specs.Layout.{Fits}
 use Rattle.runfile.proofs.Loops.{and-right}
 use Rattle.faults.specs.declared.Fault.the-variants.{UnknownWord, TooLarge, ExtraField, NoRepeat, LongLine}
+use Rattle.notation.specs.declared.Text.{Text}
+use Rattle.notation.specs.declared.Text.the-variants.{Run, Settings}
 use Rattle.notation.specs.declared.Line.{Line}
-use Rattle.notation.specs.declared.Line.the-variants.{Blank, Nodes, Acts, Wrong}
+use Rattle.notation.specs.declared.Line.the-variants.{Blank, Nodes, Acts, Actions, Wrong}
+use Rattle.notation.specs.declared.Line.the-variants as L
 use Rattle.notation.specs.declared.words.Token.{Token}
 use Rattle.notation.specs.declared.words.Token.the-variants.{Word, Number, Large}
 use Rattle.notation.specs.Words as W
-use Rattle.notation.specs.Grammar.{Part, got, bad, after, isWord, byte, long, numeral, numberIn, addressAt, addressIn, addressOrNone, holdIn, lastOf, timesOf, repeatOf, endingOf, recordOf, labelIn, requestOf, nodeOf, respondOf, changeOf, actionOf, nodesThen, nodesOf, namedOf, saidBy, lineOf}
+use Rattle.notation.specs.Grammar.{Part, got, bad, after, isWord, byte, long, numeral, numberIn, addressAt, addressIn, addressOrNone, optionIn, saidIn, toIn, holdIn, lastOf, timesOf, repeatOf, endingOf, recordOf, requestOf, nodeOf, respondOf, changeOf, actionOf, nodesThen, nodesOf, short, actionsThen, actionsOf, userOf, restOf, namedOf, saidBy, lineOf}
 
 abbrev pub Fitting : Line → Type 0
 Fitting Blank = Unit
 Fitting (Nodes n) = Unit
 Fitting (Acts a k) = Fits a
+Fitting (Actions n) = Unit
+Fitting (L.User i u) = Unit
 Fitting (Wrong f) = Unit
 
 either : (b : Bool) (x y : Line) → (b ≡ true → Fitting x) → Fitting y → Fitting (cond b x y)
@@ -65,15 +70,10 @@ unfolding addressOrNone
 none-most [] = omega arith
 none-most (t ∷ l) = either-field byte (isWord W.times t) _ _ (λ e. omega arith) (address-at t l)
 
-hold-most : (l : List Token) → AtMost byte (holdIn l)
-unfolding holdIn
-hold-most [] = omega arith
-hold-most (t ∷ l) = either-field byte (isWord W.hold t) _ _ (λ e. omega arith) (omega arith)
-
-label-most : (l : List Token) → AtMost byte (labelIn l)
-unfolding labelIn
-label-most [] = omega arith
-label-most (t ∷ l) = either-field byte (isWord W.label t) _ _ (λ e. number-most byte l) (omega arith)
+option-most : (k : ℕ) (value : List Token → Part) (l : List Token) → ((m : List Token) → AtMost byte (value m)) → AtMost byte (optionIn k value l)
+unfolding optionIn
+option-most k value [] h = omega arith
+option-most k value (t ∷ l) h = either-field byte (isWord k t) _ _ (λ e. h l) (omega arith)
 
 -- the end of an action's line
 last-fitting : (r : Line) (l : List Token) → Fitting r → Fitting (lastOf r l)
@@ -113,7 +113,7 @@ request-fitting l =
     then-fitting byte (addressIn l1) _ (address-most l1) λ address l2 a.
     then-fitting long (numberIn long l2) _ (number-most long l2) λ header l3 x.
     then-fitting long (numberIn long l3) _ (number-most long l3) λ datum l4 d.
-    then-fitting byte (labelIn l4) _ (label-most l4) λ label l5 y.
+    then-fitting byte (saidIn W.label l4) _ (option-most W.label (numberIn byte) l4 (number-most byte)) λ label l5 y.
     ending-fitting _ l5 (record-fits 1 node address 0 0 label header datum (omega arith) n a (omega arith) (omega arith) y x d)
 
 node-fitting : (kind : ℕ) (l : List Token) → kind < 256 → Fitting (nodeOf kind l)
@@ -127,7 +127,7 @@ unfolding respondOf
 respond-fitting l =
     then-fitting byte (numberIn byte l) _ (number-most byte l) λ node l1 n.
     then-fitting byte (numberIn byte l1) _ (number-most byte l1) λ ack l2 c.
-    then-fitting byte (holdIn l2) _ (hold-most l2) λ hold l3 h.
+    then-fitting byte (holdIn l2) _ (option-most W.hold (got 1) l2 (λ m. omega arith)) λ hold l3 h.
     ending-fitting _ l3 (record-fits 3 node 0 ack hold 0 0 0 (omega arith) n (omega arith) c h (omega arith) (omega arith) (omega arith))
 
 change-fitting : (l : List Token) → Fitting (changeOf l)
@@ -152,19 +152,38 @@ nodes-fitting : (l : List Token) → Fitting (nodesOf l)
 unfolding nodesOf
 nodes-fitting l = then-fitting byte (numberIn byte l) nodesThen (number-most byte l) (λ n m h. last-fitting (Nodes n) m tt)
 
-named-fitting : (k : ℕ) (l : List Token) → Fitting (namedOf k l)
+-- settings say no action
+actions-fitting : (l : List Token) → Fitting (actionsOf l)
+unfolding actionsOf
+actions-fitting l = then-fitting short (numberIn short l) actionsThen (number-most short l) (λ n m h. last-fitting (Actions n) m tt)
+
+user-fitting : (l : List Token) → Fitting (userOf l)
+unfolding userOf
+user-fitting l =
+    then-fitting byte (numberIn byte l) _ (number-most byte l) λ node l1 n.
+    then-fitting byte (toIn l1) _ (option-most W.to addressIn l1 address-most) λ address l2 a.
+    then-fitting byte (saidIn W.spell l2) _ (option-most W.spell (numberIn byte) l2 (number-most byte)) λ spell l3 s.
+    then-fitting byte (saidIn W.fillers l3) _ (option-most W.fillers (numberIn byte) l3 (number-most byte)) λ fillers l4 f.
+    then-fitting byte (holdIn l4) _ (option-most W.hold (got 1) l4 (λ m. omega arith)) λ hold l5 h.
+    then-fitting byte (saidIn W.lose l5) _ (option-most W.lose (numberIn byte) l5 (number-most byte)) λ period l6 p.
+    last-fitting _ l6 tt
+
+rest-fitting : (text : Text) (k : ℕ) (l : List Token) → Fitting (restOf text k l)
+unfolding restOf
+rest-fitting Run k l = either (isKind k) (actionOf k l) (Wrong UnknownWord) (λ e. let small = ltb-true k 13 (and-right (ltb 0 k) _ e) in action-fitting k l (omega arith)) tt
+rest-fitting Settings k l = either (eqb k W.actions) (actionsOf l) _ (λ e. actions-fitting l) (either (eqb k W.user) (userOf l) (Wrong UnknownWord) (λ e. user-fitting l) tt)
+
+named-fitting : (text : Text) (k : ℕ) (l : List Token) → Fitting (namedOf text k l)
 unfolding namedOf
-named-fitting k l =
-    either (isKind k) (actionOf k l) _ (λ e. let small = ltb-true k 13 (and-right (ltb 0 k) _ e) in action-fitting k l (omega arith))
-    (either (eqb k W.nodes) (nodesOf l) (Wrong UnknownWord) (λ e. nodes-fitting l) tt)
+named-fitting text k l = either (eqb k W.nodes) (nodesOf l) (restOf text k l) (λ e. nodes-fitting l) (rest-fitting text k l)
 
-said-fitting : (l : List Token) → Fitting (saidBy l)
+said-fitting : (text : Text) (l : List Token) → Fitting (saidBy text l)
 unfolding saidBy
-said-fitting [] = tt
-said-fitting (Word k ∷ l) = named-fitting k l
-said-fitting (Number x ∷ l) = tt
-said-fitting (Large ∷ l) = tt
+said-fitting text [] = tt
+said-fitting text (Word k ∷ l) = named-fitting text k l
+said-fitting text (Number x ∷ l) = tt
+said-fitting text (Large ∷ l) = tt
 
-pub line-fitting : (line : List ℕ) → Fitting (lineOf line)
+pub line-fitting : (text : Text) (line : List ℕ) → Fitting (lineOf text line)
 unfolding lineOf
-line-fitting line = either (ltb 255 (length line)) (Wrong LongLine) (saidBy (W.tokensOf line)) (λ e. tt) (said-fitting (W.tokensOf line))
+line-fitting text line = either (ltb 255 (length line)) (Wrong LongLine) (saidBy text (W.tokensOf line)) (λ e. tt) (said-fitting text (W.tokensOf line))

@@ -5,4 +5,5 @@ pub mod Actions
 pub mod Texts
 pub mod Fitting
 pub mod Marks
+pub mod Users
 pub mod Told

@@ -8,6 +8,7 @@ use borrow.Author.Tests.{le-ltb}
 use lib.Dec.{eqb}
 use lib.ListN.{length, length-append}
 use Rattle.transcript.specs.Lines.{line}
+use Rattle.notation.specs.declared.Text.{Text}
 use Rattle.notation.specs.Words.{endsWord, wordsFrom, wordsOf, tokensOfWords, tokensOf}
 use Rattle.notation.specs.Grammar.{saidBy, lineOf}
 use Rattle.notation.specs.Lines.{spaced}
@@ -70,10 +71,10 @@ spaced-short (w ∷ v ∷ l) =
     let h = spaced-short (v ∷ l) in
     simp length-append (omega arith)
 
--- so what it says is what the words say
-pub said-line : (ws : List (List ℕ)) → AllGood ws → total ws ≤ 255 → lineOf (spaced ws) ≡ saidBy (tokensOfWords ws)
+-- so what it says in a text is what the words say
+pub said-line : (text : Text) (ws : List (List ℕ)) → AllGood ws → total ws ≤ 255 → lineOf text (spaced ws) ≡ saidBy text (tokensOfWords ws)
 unfolding lineOf tokensOf
-said-line ws g h =
+said-line text ws g h =
     let short = spaced-short ws in
     rw (le-ltb 255 (length (spaced ws)) (omega arith), words-back ws g)
 

@@ -14,6 +14,7 @@ use Rattle.transcript.specs.Text.{ascii, decimal}
 use Rattle.transcript.specs.Lines.{line, nodesLine}
 use Rattle.transcript.proofs.Decimals.{decimal-short}
 use Rattle.notation.specs.declared.words.Token.the-variants.{Word, Number}
+use Rattle.notation.specs.declared.Text.the-variants.{Run}
 use Rattle.notation.specs.declared.Line.the-variants.{Nodes}
 use Rattle.notation.specs.Words.{tokenOf, nameOf, digitOf}
 use Rattle.notation.specs.Grammar.{saidBy, namedOf, nodesOf, numberIn, lastOf, lineOf}
@@ -107,7 +108,7 @@ actions-back n i done (a ∷ l) h g =
     ∙ ap₂ (λ (j : ℕ) (x : List Action). endOn j n x) e (append-assoc done (a ∷ []) l))
 
 -- the `nodes` line
-say-nodes : (n : ℕ) → n < 256 → saidBy (Word 13 ∷ Number n ∷ []) ≡ Nodes n
+say-nodes : (n : ℕ) → n < 256 → saidBy Run (Word 13 ∷ Number n ∷ []) ≡ Nodes n
 unfolding saidBy namedOf nodesOf numberIn lastOf
 say-nodes n h = rw (le-leb n 255 (omega arith))
 
@@ -118,10 +119,10 @@ token-nodes = refl
 nodes-good : (n : ℕ) → AllGood (ascii "nodes" ∷ decimal n ∷ [])
 nodes-good n = (good-by _ _ refl, (decimal-good n, tt))
 
-nodes-back : (n : ℕ) → n < 256 → lineOf (spaced (ascii "nodes" ∷ decimal n ∷ [])) ≡ Nodes n
+nodes-back : (n : ℕ) → n < 256 → lineOf Run (spaced (ascii "nodes" ∷ decimal n ∷ [])) ≡ Nodes n
 nodes-back n h =
     let short = decimal-short 2 n (omega arith) in
-    said-line (ascii "nodes" ∷ decimal n ∷ []) (nodes-good n) (omega arith)
+    said-line Run (ascii "nodes" ∷ decimal n ∷ []) (nodes-good n) (omega arith)
     ∙ rw (token-nodes, token-decimal n (omega arith)) (say-nodes n h)
 
 -- for every n and every list of actions that the writer takes for it: their text means them

@@ -1,23 +1,26 @@
 -- Which part of a line is to blame for its fault, and why.
 use mathlib.Core.Bool.{Bool, true, false, cond, not, _&&_, _||_}
 use mathlib.Core.List.{List, [], _∷_}
-use Prim.Native.Nat.{ℕ, zero, suc, _+_}
+use Prim.Native.Nat.{ℕ, zero, suc, _+_, _-_}
 use lib.Dec.{eqb, ltb, leb}
-use lib.ListN.{length, take, getD}
+use lib.ListN.{length, take, drop, getD}
 use Rattle.charts.specs.Numbers as N
 use Rattle.faults.specs.declared.Fault.{Fault}
 use Rattle.faults.specs.declared.Fault.the-variants as F
 use Rattle.faults.specs.declared.Cause.{Cause}
 use Rattle.faults.specs.declared.Cause.the-variants as C
+use Rattle.notation.specs.declared.Text.{Text}
+use Rattle.notation.specs.declared.Text.the-variants.{Run, Settings}
 use Rattle.notation.specs.declared.Line.{Line}
-use Rattle.notation.specs.declared.Line.the-variants.{Blank, Nodes, Acts, Wrong}
+use Rattle.notation.specs.declared.Line.the-variants.{Blank, Nodes, Acts, Actions, Wrong}
+use Rattle.notation.specs.declared.Line.the-variants as L
 use Rattle.notation.specs.declared.Blamed.{Blamed}
 use Rattle.notation.specs.declared.words.Token.{Token}
 use Rattle.notation.specs.declared.words.Token.the-variants.{Word, Number, Large}
 use Rattle.notation.specs.declared.causes.Mark.{Mark}
 use Rattle.notation.specs.declared.causes.Mark.the-variants as M
 use Rattle.notation.specs.declared.causes.Span.{Span}
-use Rattle.notation.specs.Words.{isBlank, isHash, tokensOf}
+use Rattle.notation.specs.Words.{isBlank, isHash, nameOf, tokensOf}
 use Rattle.notation.specs.Grammar.{lineOf}
 
 -- "The line ends where a field should stand."
@@ -40,19 +43,21 @@ unfoldable pub isWrong : Line → Bool
 isWrong Blank = false
 isWrong (Nodes n) = false
 isWrong (Acts a k) = false
+isWrong (Actions n) = false
+isWrong (L.User i u) = false
 isWrong (Wrong f) = not (isMissing f)
 
 -- a word ends with the byte at a place: that is no blank, and the line ends after it or a blank follows
 unfoldable pub endsWith : List ℕ → ℕ → Bool
 endsWith line i = not (isBlank (getD line i 0)) && (leb (length line) (i + 1) || isBlank (getD line (i + 1) 0))
 
--- what may stand at a place: a comment's `#`, a blank, a byte of a word, a `*`, the last byte of a word with which "the line is wrong already"
+-- what may stand at a place: a comment's `#`, a blank, a byte of a word, a `*`, the last byte of a word with which "the line is wrong already" as a line of that text
 unfoldable pub isAt : Mark → List ℕ → ℕ → Bool
 isAt M.Comment line i = isHash (getD line i 0)
 isAt M.Space line i = isBlank (getD line i 0)
 isAt M.Text line i = not (isBlank (getD line i 0))
 isAt M.Star line i = eqb (getD line i 0) 42
-isAt M.Fatal line i = endsWith line i && isWrong (lineOf (take (i + 1) line))
+isAt (M.Fatal text) line i = endsWith line i && isWrong (lineOf text (take (i + 1) line))
 
 -- the first such place from i on, in k places, or the place after them
 abbrev pub firstFrom : Mark → List ℕ → ℕ → ℕ → ℕ
@@ -76,9 +81,9 @@ abbrev pub span : ℕ → ℕ → Span
 span from to = record { from = from; to = to }
 
 -- "WORD is the first word with which the line is wrong already."
-unfoldable pub wordIn : List ℕ → Span
-wordIn line =
-    cond (ltb (firstIn M.Fatal line) (length line)) (span (afterLast M.Space line (firstIn M.Fatal line)) (firstIn M.Fatal line + 1))
+unfoldable pub wordIn : Text → List ℕ → Span
+wordIn text line =
+    cond (ltb (firstIn (M.Fatal text) line) (length line)) (span (afterLast M.Space line (firstIn (M.Fatal text) line)) (firstIn (M.Fatal text) line + 1))
     (span 0 0)
 
 -- "STATEMENT is the line from its first word to its last"
@@ -105,34 +110,49 @@ refusalOf n k (Acts a t) =
     (cond (eqb k N.wrong-label) (C.Label (a .label))
     (cond (eqb k N.wrong-answer) (C.Ack (a .ack))
     C.Plain)))
+refusalOf n k (Actions x) = C.Plain
+refusalOf n k (L.User i u) =
+    cond (eqb k N.wrong-node) (C.Node i n)
+    (cond (eqb k N.wrong-address) (C.Address (u .address) n)
+    C.Plain)
 refusalOf n k (Wrong f) = C.Plain
 
 abbrev pub blamed : Cause → Span → Blamed
 blamed cause s = record { cause = cause; from = s .from; to = s .to }
 
--- the place of the field that begins at byte i: how many words stand before it, or 0 for "what follows a `*`". (That is so where the last byte of text before i is a `*`: a longer
--- word that ends in one is wrong already, and is itself to blame.)
-unfoldable pub placeAt : List ℕ → ℕ → ℕ
-placeAt line i = cond (eqb (afterLast M.Star line i) (afterLast M.Text line i)) 0 (wordsBefore line i)
+-- the name of the last word before byte i
+abbrev pub lastWord : List ℕ → ℕ → List ℕ
+lastWord line to = take (to - afterLast M.Space line to) (drop (afterLast M.Space line to) line)
 
-abbrev pub placeOf : List ℕ → ℕ
-placeOf line = placeAt line (wordIn line .from)
+abbrev pub nameBefore : List ℕ → ℕ → ℕ
+nameBefore line i = nameOf (lastWord line (afterLast M.Text line i))
+
+-- the field that begins at byte i is named in a run by the line's first word and the field's place, in settings by the word that stands before it
+unfoldable pub namedAt : Text → List ℕ → ℕ → ℕ
+namedAt Run line i = kindOf line
+namedAt Settings line i = nameBefore line i
+
+-- that place: how many words stand before it, or 0 for "what follows a `*`". (That is so where the last byte of text before i is a `*`: a longer word that ends in one is wrong
+-- already, and is itself to blame.)
+unfoldable pub placeAt : Text → List ℕ → ℕ → ℕ
+placeAt Run line i = cond (eqb (afterLast M.Star line i) (afterLast M.Text line i)) 0 (wordsBefore line i)
+placeAt Settings line i = 1
 
 -- the cause by the table of "What can be wrong", for a line without its comment
-unfoldable pub blameIn : ℕ → List ℕ → Fault → Blamed
-blameIn n line F.UnknownWord = blamed C.Quoted (wordIn line)
-blameIn n line F.NotNumber = blamed (C.Field (kindOf line) (placeOf line)) (wordIn line)
-blameIn n line F.TooLarge = blamed (C.Large (kindOf line) (placeOf line)) (wordIn line)
-blameIn n line F.MissingField = blamed (C.Missing (kindOf line) (placeAt line (length line))) (span 0 0)
-blameIn n line F.ExtraField = blamed C.Quoted (wordIn line)
-blameIn n line F.NoRepeat = blamed C.Plain (span 0 0)
-blameIn n line F.LongLine = blamed C.Plain (span 0 0)
-blameIn n line F.NodesMissing = blamed C.Plain (span 0 0)
-blameIn n line F.NodesAgain = blamed C.Plain (span 0 0)
-blameIn n line F.NoAction = blamed C.Plain (span 0 0)
-blameIn n line F.TooMany = blamed C.Plain (span 0 0)
-blameIn n line (F.Refused k) = blamed (refusalOf n k (lineOf line)) (statementIn line)
+unfoldable pub blameIn : Text → ℕ → List ℕ → Fault → Blamed
+blameIn text n line F.UnknownWord = blamed C.Quoted (wordIn text line)
+blameIn text n line F.NotNumber = blamed (C.Field (namedAt text line (wordIn text line .from)) (placeAt text line (wordIn text line .from))) (wordIn text line)
+blameIn text n line F.TooLarge = blamed (C.Large (namedAt text line (wordIn text line .from)) (placeAt text line (wordIn text line .from))) (wordIn text line)
+blameIn text n line F.MissingField = blamed (C.Missing (namedAt text line (length line)) (placeAt text line (length line))) (span 0 0)
+blameIn text n line F.ExtraField = blamed C.Quoted (wordIn text line)
+blameIn text n line F.NoRepeat = blamed C.Plain (span 0 0)
+blameIn text n line F.LongLine = blamed C.Plain (span 0 0)
+blameIn text n line F.NodesMissing = blamed C.Plain (span 0 0)
+blameIn text n line F.NodesAgain = blamed C.Plain (span 0 0)
+blameIn text n line F.NoAction = blamed C.Plain (span 0 0)
+blameIn text n line F.TooMany = blamed C.Plain (span 0 0)
+blameIn text n line (F.Refused k) = blamed (refusalOf n k (lineOf text line)) (statementIn line)
 
 -- a line over 255 bytes is only too long
-unfoldable pub blameOf : ℕ → List ℕ → Fault → Blamed
-blameOf n line f = cond (ltb 255 (length line)) (blamed C.Plain (span 0 0)) (blameIn n (take (firstIn M.Comment line) line) f)
+unfoldable pub blameOf : Text → ℕ → List ℕ → Fault → Blamed
+blameOf text n line f = cond (ltb 255 (length line)) (blamed C.Plain (span 0 0)) (blameIn text n (take (firstIn M.Comment line) line) f)

@@ -1,10 +1,11 @@
--- One line of a run in plain words: its productions, over the words of the line.
-use mathlib.Core.Bool.{Bool, false, cond}
+-- One line of a run or of settings in plain words: its productions, over the words of the line.
+use mathlib.Core.Bool.{Bool, false, cond, not}
 use mathlib.Core.List.{List, [], _∷_}
 use Prim.Native.Nat.{ℕ, _≤_}
 use lib.Dec.{eqb, ltb, leb}
 use lib.ListN.{length}
 use Rattle.charts.specs.declared.Action.{Action}
+use Rattle.charts.specs.declared.User.{User}
 use Rattle.charts.specs.Records.{isKind}
 use Rattle.charts.specs.Signals.{everybody}
 use Rattle.notation.specs.declared.words.Token.{Token}
@@ -13,8 +14,11 @@ use Rattle.notation.specs.declared.grammar.Field.{Field}
 use Rattle.notation.specs.declared.grammar.Field.the-variants as F
 use Rattle.faults.specs.declared.Fault.{Fault}
 use Rattle.faults.specs.declared.Fault.the-variants.{UnknownWord, NotNumber, TooLarge, MissingField, ExtraField, NoRepeat, LongLine}
+use Rattle.notation.specs.declared.Text.{Text}
+use Rattle.notation.specs.declared.Text.the-variants.{Run, Settings}
 use Rattle.notation.specs.declared.Line.{Line}
-use Rattle.notation.specs.declared.Line.the-variants.{Blank, Nodes, Acts, Wrong}
+use Rattle.notation.specs.declared.Line.the-variants.{Blank, Nodes, Acts, Actions, Wrong}
+use Rattle.notation.specs.declared.Line.the-variants as L
 use Rattle.notation.specs.Words as W
 use Rattle.notation.specs.Cursors.{tokensLeft}
 
@@ -49,6 +53,9 @@ isWord k Large = false
 abbrev pub byte : ℕ
 byte = 255
 
+abbrev pub short : ℕ
+short = 65535
+
 abbrev pub long : ℕ
 long = 4294967295
 
@@ -74,10 +81,22 @@ unfoldable pub addressOrNone : List Token → Part
 addressOrNone [] = got 0 []
 addressOrNone (t ∷ l) = cond (isWord W.times t) (got 0 (t ∷ l)) (addressAt t l)
 
--- "`respond 1 1 hold` / `respond 1 1`": hold is 1 or 0
-unfoldable pub holdIn : List Token → Part
-holdIn [] = got 0 []
-holdIn (t ∷ l) = cond (isWord W.hold t) (got 1 l) (got 0 (t ∷ l))
+-- an optional word and the value after it; without the word the value is 0
+unfoldable pub optionIn : ℕ → (List Token → Part) → List Token → Part
+optionIn k value [] = got 0 []
+optionIn k value (t ∷ l) = cond (isWord k t) (value l) (got 0 (t ∷ l))
+
+-- "[ "label" LABEL ]", "[ "spell" SPELL ] [ "fillers" FILLERS ]", "[ "lose" PERIOD ]": "What is not said is 0"
+abbrev pub saidIn : ℕ → List Token → Part
+saidIn k l = optionIn k (numberIn byte) l
+
+-- "[ "to" ADDRESS ]"
+abbrev pub toIn : List Token → Part
+toIn l = optionIn W.to addressIn l
+
+-- "[ "hold" ]": 1, or 0 for release
+abbrev pub holdIn : List Token → Part
+holdIn l = optionIn W.hold (got 1) l
 
 -- the end of a line
 unfoldable pub lastOf : Line → List Token → Line
@@ -101,17 +120,13 @@ recordOf kind node address ack hold label header datum =
     record { kind = kind; node = node; address = address; ack = ack; hold = hold; label = label; byte6 = 0; byte7 = 0; header = header; datum = datum }
 
 -- "`request NODE ADDRESS HEADER DATA label LABEL`, the two last words optional (label 0)"
-unfoldable pub labelIn : List Token → Part
-labelIn [] = got 0 []
-labelIn (t ∷ l) = cond (isWord W.label t) (numberIn byte l) (got 0 (t ∷ l))
-
 unfoldable pub requestOf : List Token → Line
 requestOf l =
     after (numberIn byte l) λ node l1.
     after (addressIn l1) λ address l2.
     after (numberIn long l2) λ header l3.
     after (numberIn long l3) λ datum l4.
-    after (labelIn l4) λ label l5.
+    after (saidIn W.label l4) λ label l5.
     endingOf (recordOf 1 node address 0 0 label header datum) l5
 
 -- "`arbitrate 0`", "`clock 0`"; "`ask NODE`", "`decide NODE`"
@@ -153,18 +168,45 @@ nodesThen n l = lastOf (Nodes n) l
 unfoldable pub nodesOf : List Token → Line
 nodesOf l = after (numberIn byte l) nodesThen
 
-unfoldable pub namedOf : ℕ → List Token → Line
-namedOf k l = cond (isKind k) (actionOf k l) (cond (eqb k W.nodes) (nodesOf l) (Wrong UnknownWord))
+-- "actions = "actions" NUMBER": "the number of actions at most 65,535"
+abbrev pub actionsThen : ℕ → List Token → Line
+actionsThen n l = lastOf (Actions n) l
 
-abbrev pub beginsWith : Token → List Token → Line
-beginsWith (Word k) l = namedOf k l
-beginsWith (Number x) l = Wrong UnknownWord
-beginsWith Large l = Wrong UnknownWord
+unfoldable pub actionsOf : List Token → Line
+actionsOf l = after (numberIn short l) actionsThen
 
-unfoldable pub saidBy : List Token → Line
-saidBy [] = Blank
-saidBy (t ∷ l) = beginsWith t l
+-- a user by its settings
+abbrev pub userWith : ℕ → ℕ → ℕ → ℕ → ℕ → User
+userWith address spell fillers hold period = record { spell = spell; address = address; fillers = fillers; hold = not (eqb hold 0); period = period }
+
+-- "user = "user" NODE [ "to" ADDRESS ] [ "spell" SPELL ] [ "fillers" FILLERS ] [ "hold" ] [ "lose" PERIOD ]": "The words of a user stand in this order."
+unfoldable pub userOf : List Token → Line
+userOf l =
+    after (numberIn byte l) λ node l1.
+    after (toIn l1) λ address l2.
+    after (saidIn W.spell l2) λ spell l3.
+    after (saidIn W.fillers l3) λ fillers l4.
+    after (holdIn l4) λ hold l5.
+    after (saidIn W.lose l5) λ period l6.
+    lastOf (L.User node (userWith address spell fillers hold period)) l6
+
+-- a line by its first word: of a run "blank | nodes | action", of settings "blank | nodes | actions | user"
+unfoldable pub restOf : Text → ℕ → List Token → Line
+restOf Run k l = cond (isKind k) (actionOf k l) (Wrong UnknownWord)
+restOf Settings k l = cond (eqb k W.actions) (actionsOf l) (cond (eqb k W.user) (userOf l) (Wrong UnknownWord))
+
+unfoldable pub namedOf : Text → ℕ → List Token → Line
+namedOf text k l = cond (eqb k W.nodes) (nodesOf l) (restOf text k l)
+
+abbrev pub beginsWith : Text → Token → List Token → Line
+beginsWith text (Word k) l = namedOf text k l
+beginsWith text (Number x) l = Wrong UnknownWord
+beginsWith text Large l = Wrong UnknownWord
+
+unfoldable pub saidBy : Text → List Token → Line
+saidBy text [] = Blank
+saidBy text (t ∷ l) = beginsWith text t l
 
 -- a line "of at most 255 bytes"
-unfoldable pub lineOf : List ℕ → Line
-lineOf line = cond (ltb 255 (length line)) (Wrong LongLine) (saidBy (W.tokensOf line))
+unfoldable pub lineOf : Text → List ℕ → Line
+lineOf text line = cond (ltb 255 (length line)) (Wrong LongLine) (saidBy text (W.tokensOf line))

@@ -15,9 +15,11 @@ use Rattle.charts.specs.declared.Decoded.the-variants as D
 use Rattle.record.specs.Layout.{Fits}
 use Rattle.transcript.specs.Lines.{nodesLine}
 use Rattle.faults.specs.declared.Fault.{Fault}
-use Rattle.faults.specs.declared.Fault.the-variants.{NodesMissing, NodesAgain, NoAction, Refused}
+use Rattle.faults.specs.declared.Fault.the-variants.{UnknownWord, NodesMissing, NodesAgain, NoAction, Refused}
+use Rattle.notation.specs.declared.Text.the-variants.{Run}
 use Rattle.notation.specs.declared.Line.{Line}
-use Rattle.notation.specs.declared.Line.the-variants.{Blank, Nodes, Acts, Wrong}
+use Rattle.notation.specs.declared.Line.the-variants.{Blank, Nodes, Acts, Actions, Wrong}
+use Rattle.notation.specs.declared.Line.the-variants as L
 use Rattle.notation.specs.Words.{withWord}
 use Rattle.notation.specs.Grammar.{lineOf}
 use Rattle.transcript.specs.Printed.{actionLine}
@@ -51,11 +53,13 @@ abbrev pub readOn : ℕ → List Action → Action → ℕ → Decoded → Said
 readOn n l a k (D.Refused j) = off (Refused j)
 readOn n l a k (D.Accepted m) = on n (l ++ replicate k a)
 
--- "`nodes 3` first"
+-- "`nodes 3` first"; a run has no lines of settings: "The first word is no action and not `nodes`"
 abbrev pub lineOn : ℕ → List Action → Line → Said
 lineOn n l Blank = on n l
 lineOn n l (Nodes m) = cond (not (eqb n 0)) (off NodesAgain) (cond (not (isSize m)) (off (Refused N.wrong-size)) (on m l))
 lineOn n l (Acts a k) = cond (eqb n 0) (off NodesMissing) (readOn n l a k (read n a))
+lineOn n l (Actions k) = off UnknownWord
+lineOn n l (L.User i u) = off UnknownWord
 lineOn n l (Wrong f) = off f
 
 -- "no `nodes` line, no action": told of the last line
@@ -69,7 +73,7 @@ afterLine i (off f) next = wrong i f
 -- the meaning of lines after i lines that gave n and l
 abbrev pub meaningFrom : List (List ℕ) → ℕ → ℕ → List Action → Meaning
 meaningFrom [] i n l = endOn i n l
-meaningFrom (t ∷ ts) i n l = afterLine (suc i) (lineOn n l (lineOf t)) (meaningFrom ts (suc i))
+meaningFrom (t ∷ ts) i n l = afterLine (suc i) (lineOn n l (lineOf Run t)) (meaningFrom ts (suc i))
 
 unfoldable pub meaningOf : List ℕ → Meaning
 meaningOf text = meaningFrom (linesOf (unmarked text)) 0 0 []

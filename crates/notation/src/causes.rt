@@ -3,9 +3,10 @@ ghost use mathlib.Core.Path.{_≡_};
 ghost use Prim.Native.Nat.{_<_, _≤_};
 ghost use lib.ListN.{length};
 ghost use Rattle.notation.specs.Blame.{isMissing, isWrong, endsWith, isAt, firstIn, afterLast, wordsBefore};
-ghost use Rattle.notation.specs.Blame.{wordIn, statementIn, kindOf, refusalOf, span, placeAt, blamed, blameIn};
+ghost use Rattle.notation.specs.Blame.{wordIn, statementIn, kindOf, refusalOf, span, nameBefore, namedAt, placeAt, blamed, blameIn};
 use crate::Blamed;
 use crate::Line;
+use crate::Text;
 use crate::words;
 use crate::words::Cursor;
 use crate::words::Step;
@@ -23,13 +24,14 @@ const WRONG_ANSWER: u8 = 6;
 
 const WRONG_LABEL: u8 = 13;
 
-// What is looked for in a line: a comment's `#`, a blank, a byte of a word, a `*`, the last byte of a word with which the line is wrong already.
+// What is looked for in a line: a comment's `#`, a blank, a byte of a word, a `*`, the last byte of a word with which the line is wrong already as one
+// of that text.
 pub(crate) enum Mark {
     Comment,
     Space,
     Text,
     Star,
-    Fatal,
+    Fatal(Text),
 }
 
 // A part of a line.
@@ -64,6 +66,8 @@ fn is_wrong(said: Line) -> bool
         Line::Blank => false,
         Line::Nodes(_) => false,
         Line::Acts(_, _) => false,
+        Line::Actions(_) => false,
+        Line::User(_, _) => false,
         Line::Wrong(fault) => !is_missing(fault),
     }
 }
@@ -90,12 +94,12 @@ fn is_at(m: Mark, line: &[u8], i: usize) -> bool
         Mark::Space => words::is_blank(line[i]),
         Mark::Text => !words::is_blank(line[i]),
         Mark::Star => line[i] == b'*',
-        Mark::Fatal => {
+        Mark::Fatal(text) => {
             if !ends_with(line, i) {
                 return false;
             }
             let end = i + 1;
-            is_wrong(crate::parse_line(&line[..end]))
+            is_wrong(crate::parse_line(text, &line[..end]))
         }
     }
 }
@@ -147,11 +151,11 @@ fn words_before(line: &[u8], end: usize) -> usize
     k
 }
 
-fn word_in(line: &[u8]) -> Span
-    ensures { λ r. ⌜ r ≡ wordIn (now (line .entry)) ⌝ }
+fn word_in(text: Text, line: &[u8]) -> Span
+    ensures { λ r. ⌜ r ≡ wordIn text (now (line .entry)) ⌝ }
     ensures { λ r. ⌜ (r .from ≤ r .to) × (r .to ≤ length (now (line .entry))) ⌝ }
 {
-    let last = first_in(Mark::Fatal, line);
+    let last = first_in(Mark::Fatal(text), line);
     if last < line.len() {
         return Span {
             from: after_last(Mark::Space, line, last),
@@ -217,6 +221,16 @@ fn refusal(n: u8, k: u8, said: Line) -> Cause
             }
             Cause::Plain
         }
+        Line::Actions(_) => Cause::Plain,
+        Line::User(node, u) => {
+            if k == WRONG_NODE {
+                return Cause::Node(node, n);
+            }
+            if k == WRONG_ADDRESS {
+                return Cause::Address(u.address, n);
+            }
+            Cause::Plain
+        }
         Line::Wrong(_) => Cause::Plain,
     }
 }
@@ -241,42 +255,76 @@ pub(crate) fn nowhere(cause: Cause) -> Blamed
     }
 }
 
+// The name of the last word before a place.
+fn name_before(line: &[u8], i: usize) -> u8
+    requires { ⌜ i ≤ length (now line) ⌝ }
+    ensures { λ r. ⌜ r ≡ nameBefore (now (line .entry)) i ⌝ }
+{
+    let to = after_last(Mark::Text, line, i);
+    let from = after_last(Mark::Space, line, to);
+    words::name(&line[from..to])
+}
+
+// The name by which the field is told that begins at `i`.
+fn named_at(text: Text, line: &[u8], i: usize) -> u8
+    requires { ⌜ i ≤ length (now line) ⌝ }
+    ensures { λ r. ⌜ r ≡ namedAt text (now (line .entry)) i ⌝ }
+{
+    match text {
+        Text::Run => kind_of(line),
+        Text::Settings => name_before(line, i),
+    }
+}
+
 // The place of the field that begins at `i`; 0 for what follows a `*`.
-fn place_at(line: &[u8], i: usize) -> u8
+fn place_at(text: Text, line: &[u8], i: usize) -> u8
     requires { ⌜ length (now line) ≤ 255 ⌝ }
     requires { ⌜ i ≤ length (now line) ⌝ }
-    ensures { λ r. ⌜ r ≡ placeAt (now (line .entry)) i ⌝ }
+    ensures { λ r. ⌜ r ≡ placeAt text (now (line .entry)) i ⌝ }
 {
-    if after_last(Mark::Star, line, i) == after_last(Mark::Text, line, i) {
-        return 0;
+    match text {
+        Text::Run => {
+            if after_last(Mark::Star, line, i) == after_last(Mark::Text, line, i) {
+                return 0;
+            }
+            words_before(line, i) as u8
+        }
+        Text::Settings => 1,
     }
-    words_before(line, i) as u8
 }
 
 // A line without its comment.
-pub(crate) fn blame_in(n: u8, line: &[u8], fault: Fault) -> Blamed
+pub(crate) fn blame_in(text: Text, n: u8, line: &[u8], fault: Fault) -> Blamed
     requires { ⌜ length (now line) ≤ 255 ⌝ }
-    ensures { λ r. ⌜ r ≡ blameIn n (now (line .entry)) fault ⌝ }
+    ensures { λ r. ⌜ r ≡ blameIn text n (now (line .entry)) fault ⌝ }
     ensures { λ r. ⌜ (r .from ≤ r .to) × (r .to ≤ length (now (line .entry))) ⌝ }
 {
     match fault {
-        Fault::UnknownWord => at_span(Cause::Quoted, word_in(line)),
+        Fault::UnknownWord => at_span(Cause::Quoted, word_in(text, line)),
         Fault::NotNumber => {
-            let w = word_in(line);
-            at_span(Cause::Field(kind_of(line), place_at(line, w.from)), w)
+            let w = word_in(text, line);
+            let name = named_at(text, line, w.from);
+            at_span(Cause::Field(name, place_at(text, line, w.from)), w)
         }
         Fault::TooLarge => {
-            let w = word_in(line);
-            at_span(Cause::Large(kind_of(line), place_at(line, w.from)), w)
+            let w = word_in(text, line);
+            let name = named_at(text, line, w.from);
+            at_span(Cause::Large(name, place_at(text, line, w.from)), w)
         }
-        Fault::MissingField => nowhere(Cause::Missing(kind_of(line), place_at(line, line.len()))),
-        Fault::ExtraField => at_span(Cause::Quoted, word_in(line)),
+        Fault::MissingField => {
+            let name = named_at(text, line, line.len());
+            nowhere(Cause::Missing(name, place_at(text, line, line.len())))
+        }
+        Fault::ExtraField => at_span(Cause::Quoted, word_in(text, line)),
         Fault::NoRepeat => nowhere(Cause::Plain),
         Fault::LongLine => nowhere(Cause::Plain),
         Fault::NodesMissing => nowhere(Cause::Plain),
         Fault::NodesAgain => nowhere(Cause::Plain),
         Fault::NoAction => nowhere(Cause::Plain),
         Fault::TooMany => nowhere(Cause::Plain),
-        Fault::Refused(k) => at_span(refusal(n, k, crate::parse_line(line)), statement_in(line)),
+        Fault::Refused(k) => {
+            let said = crate::parse_line(text, line);
+            at_span(refusal(n, k, said), statement_in(line))
+        }
     }
 }

@@ -1,19 +1,25 @@
 // The productions of a line. Each reads on from a cursor.
 ghost use mathlib.Core.Path.{_≡_};
 ghost use Rattle.charts.specs.Records.{isKind};
+ghost use Rattle.notation.specs.declared.Text.the-variants.{Run, Settings};
 ghost use Rattle.notation.specs.Words.{tokensOf};
 ghost use Rattle.notation.specs.Cursors.{tokensLeft};
-ghost use Rattle.notation.specs.Grammar.{seen, faultOf, fieldFits, isWord, numeral, numberIn, addressAt, addressIn, addressOrNone, holdIn};
-ghost use Rattle.notation.specs.Grammar.{lastOf, repeatOf, endingOf, recordOf, labelIn, requestOf, nodeOf, respondOf, changeOf, actionOf, nodesOf, namedOf, saidBy};
+ghost use Rattle.notation.specs.Grammar.{seen, faultOf, fieldFits, isWord, numeral, numberIn, addressAt, addressIn, addressOrNone, saidIn, toIn, holdIn};
+ghost use Rattle.notation.specs.Grammar.{lastOf, repeatOf, endingOf, recordOf, requestOf, nodeOf, respondOf, changeOf, actionOf, nodesOf};
+ghost use Rattle.notation.specs.Grammar.{actionsOf, userWith, userOf, restOf, namedOf, saidBy};
 use crate::Line;
+use crate::Text;
 use crate::words;
 use crate::words::Cursor;
 use crate::words::Step;
 use crate::words::Token;
 use charts::Action;
+use charts::User;
 use faults::Fault;
 
 const BYTE: u32 = 255;
+
+const SHORT: u32 = 65535;
 
 const LONG: u32 = 4294967295;
 
@@ -103,7 +109,7 @@ fn address_or_none(line: &[u8], c: Cursor) -> Field
     }
 }
 
-// The hold of a `respond`, 0 where it has none.
+// `hold` is 1, and 0 where it is not said.
 fn hold(line: &[u8], c: Cursor) -> Field
     ensures { λ r. ⌜ seen (now (line .entry)) r ≡ holdIn (tokensLeft (now (line .entry)) (c .at)) ⌝ }
     ensures { λ r. ⌜ fieldFits 1 r ⌝ }
@@ -120,17 +126,34 @@ fn hold(line: &[u8], c: Cursor) -> Field
     }
 }
 
-// The label of a `request`, 0 where it has none.
-fn label(line: &[u8], c: Cursor) -> Field
-    ensures { λ r. ⌜ seen (now (line .entry)) r ≡ labelIn (tokensLeft (now (line .entry)) (c .at)) ⌝ }
+// The number after a word that may be said; 0 where it is not.
+fn said(line: &[u8], k: u8, c: Cursor) -> Field
+    ensures { λ r. ⌜ seen (now (line .entry)) r ≡ saidIn k (tokensLeft (now (line .entry)) (c .at)) ⌝ }
     ensures { λ r. ⌜ fieldFits 255 r ⌝ }
 {
     let step = words::next_word(line, c);
     match step {
         Step::End => Field::Is(0, c),
         Step::Read(t, next) => {
-            if is_word(t, words::LABEL) {
+            if is_word(t, k) {
                 return number(line, BYTE, next);
+            }
+            Field::Is(0, c)
+        }
+    }
+}
+
+// The address after `to`; 0 where it is not said.
+fn to(line: &[u8], c: Cursor) -> Field
+    ensures { λ r. ⌜ seen (now (line .entry)) r ≡ toIn (tokensLeft (now (line .entry)) (c .at)) ⌝ }
+    ensures { λ r. ⌜ fieldFits 255 r ⌝ }
+{
+    let step = words::next_word(line, c);
+    match step {
+        Step::End => Field::Is(0, c),
+        Step::Read(t, next) => {
+            if is_word(t, words::TO) {
+                return address(line, next);
             }
             Field::Is(0, c)
         }
@@ -235,7 +258,7 @@ fn request(line: &[u8], c: Cursor) -> Line
     let Field::Is(datum, after_datum) = fourth else {
         return Line::Wrong(fault_of(fourth));
     };
-    let fifth = label(line, after_datum);
+    let fifth = said(line, words::LABEL, after_datum);
     let Field::Is(labelled, after_label) = fifth else {
         return Line::Wrong(fault_of(fifth));
     };
@@ -324,28 +347,111 @@ fn is_kind(k: u8) -> bool
     false
 }
 
-// A line that begins with a name.
-fn named(line: &[u8], k: u8, c: Cursor) -> Line
-    ensures { λ r. ⌜ r ≡ namedOf k (tokensLeft (now (line .entry)) (c .at)) ⌝ }
+// The number of actions of settings.
+fn actions(line: &[u8], c: Cursor) -> Line
+    ensures { λ r. ⌜ r ≡ actionsOf (tokensLeft (now (line .entry)) (c .at)) ⌝ }
+{
+    let f = number(line, SHORT, c);
+    let Field::Is(n, next) = f else {
+        return Line::Wrong(fault_of(f));
+    };
+    last(line, Line::Actions(n as u16), next)
+}
+
+fn user_with(address: u8, spell: u8, fillers: u8, hold: u8, period: u8) -> User
+    ensures { λ r. ⌜ r ≡ userWith address spell fillers hold period ⌝ }
+{
+    User {
+        spell: spell,
+        address: address,
+        fillers: fillers,
+        hold: hold != 0,
+        period: period,
+    }
+}
+
+fn user(line: &[u8], c: Cursor) -> Line
+    ensures { λ r. ⌜ r ≡ userOf (tokensLeft (now (line .entry)) (c .at)) ⌝ }
+{
+    let first = number(line, BYTE, c);
+    let Field::Is(node, after_node) = first else {
+        return Line::Wrong(fault_of(first));
+    };
+    let second = to(line, after_node);
+    let Field::Is(address, after_address) = second else {
+        return Line::Wrong(fault_of(second));
+    };
+    let third = said(line, words::SPELL, after_address);
+    let Field::Is(spell, after_spell) = third else {
+        return Line::Wrong(fault_of(third));
+    };
+    let fourth = said(line, words::FILLERS, after_spell);
+    let Field::Is(fillers, after_fillers) = fourth else {
+        return Line::Wrong(fault_of(fourth));
+    };
+    let fifth = hold(line, after_fillers);
+    let Field::Is(held, after_hold) = fifth else {
+        return Line::Wrong(fault_of(fifth));
+    };
+    let sixth = said(line, words::LOSE, after_hold);
+    let Field::Is(period, after_period) = sixth else {
+        return Line::Wrong(fault_of(sixth));
+    };
+    let u = user_with(
+        address as u8,
+        spell as u8,
+        fillers as u8,
+        held as u8,
+        period as u8,
+    );
+    last(line, Line::User(node as u8, u), after_period)
+}
+
+// A line of a run that begins with a name other than `nodes`.
+fn of_run(line: &[u8], k: u8, c: Cursor) -> Line
+    ensures { λ r. ⌜ r ≡ restOf Run k (tokensLeft (now (line .entry)) (c .at)) ⌝ }
 {
     if is_kind(k) {
         return of_kind(line, k, c);
     }
-    if k == words::NODES {
-        return nodes(line, c);
+    Line::Wrong(Fault::UnknownWord)
+}
+
+// A line of settings that begins with a name other than `nodes`.
+fn of_settings(line: &[u8], k: u8, c: Cursor) -> Line
+    ensures { λ r. ⌜ r ≡ restOf Settings k (tokensLeft (now (line .entry)) (c .at)) ⌝ }
+{
+    if k == words::ACTIONS {
+        return actions(line, c);
+    }
+    if k == words::USER {
+        return user(line, c);
     }
     Line::Wrong(Fault::UnknownWord)
 }
 
-// What a line says.
-pub(crate) fn parse(line: &[u8]) -> Line
-    ensures { λ r. ⌜ r ≡ saidBy (tokensOf (now (line .entry))) ⌝ }
+// A line that begins with a name.
+fn named(text: Text, line: &[u8], k: u8, c: Cursor) -> Line
+    ensures { λ r. ⌜ r ≡ namedOf text k (tokensLeft (now (line .entry)) (c .at)) ⌝ }
+{
+    if k == words::NODES {
+        return nodes(line, c);
+    }
+    match text {
+        Text::Run => of_run(line, k, c),
+        Text::Settings => of_settings(line, k, c),
+    }
+}
+
+// What a line of a text says.
+pub(crate) fn parse(text: Text, line: &[u8]) -> Line
+    ensures { λ r. ⌜ r ≡ saidBy text (tokensOf (now (line .entry))) ⌝ }
 {
     let step = words::next_word(line, Cursor { at: 0 });
     match step {
         Step::End => Line::Blank,
         Step::Read(t, next) => match t {
-            Token::Word(k) => named(line, k, next),
+            Token::Word(k) => named(text, line, k, next),
             Token::Number(_) => Line::Wrong(Fault::UnknownWord),
             Token::Large => Line::Wrong(Fault::UnknownWord),
         },

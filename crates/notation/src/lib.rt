@@ -1,4 +1,4 @@
-// Runs in plain words: what each line says that people write, and what of it is to blame where it is wrong.
+// Runs and settings in plain words: what each line says that people write, and what of it is to blame where it is wrong.
 mod causes;
 mod grammar;
 mod words;
@@ -11,14 +11,23 @@ ghost use Rattle.notation.specs.Meaning.{markSize};
 ghost use Rattle.notation.specs.Blame.{blameOf};
 use causes::Mark;
 use charts::Action;
+use charts::User;
 use faults::Cause;
 use faults::Fault;
 
-// What a line says: nothing, the number of nodes, an action with how often it is repeated, or what is wrong.
+// What a text is of: a run, or the settings of a load trial.
+pub enum Text {
+    Run,
+    Settings,
+}
+
+// What a line says: nothing, the number of nodes, an action with how often it is repeated, the number of actions, a node's user, or what is wrong.
 pub enum Line {
     Blank,
     Nodes(u8),
     Acts(Action, u32),
+    Actions(u16),
+    User(u8, User),
     Wrong(Fault),
 }
 
@@ -29,14 +38,14 @@ pub struct Blamed {
     pub to: usize,
 }
 
-// What a line says, without its newline.
-pub fn parse_line(line: &[u8]) -> Line
-    ensures { λ r. ⌜ r ≡ lineOf (now (line .entry)) ⌝ }
+// What a line of a text says, without its newline.
+pub fn parse_line(text: Text, line: &[u8]) -> Line
+    ensures { λ r. ⌜ r ≡ lineOf text (now (line .entry)) ⌝ }
 {
     if 255 < line.len() {
         return Line::Wrong(Fault::LongLine);
     }
-    grammar::parse(line)
+    grammar::parse(text, line)
 }
 
 // How many bytes of a text are its byte order mark.
@@ -59,14 +68,14 @@ pub fn mark_size(text: &[u8]) -> usize
     3
 }
 
-// What is to blame for the fault of a line. n is the number of nodes.
-pub fn blame(n: u8, line: &[u8], fault: Fault) -> Blamed
-    ensures { λ r. ⌜ r ≡ blameOf n (now (line .entry)) fault ⌝ }
+// What is to blame for the fault of a line of a text. n is the number of nodes.
+pub fn blame(text: Text, n: u8, line: &[u8], fault: Fault) -> Blamed
+    ensures { λ r. ⌜ r ≡ blameOf text n (now (line .entry)) fault ⌝ }
     ensures { λ r. ⌜ (r .from ≤ r .to) × (r .to ≤ length (now (line .entry))) ⌝ }
 {
     if 255 < line.len() {
         return causes::nowhere(Cause::Plain);
     }
     let end = causes::first_in(Mark::Comment, line);
-    causes::blame_in(n, &line[..end], fault)
+    causes::blame_in(text, n, &line[..end], fault)
 }

@@ -19,8 +19,8 @@ enum-told-2 c = search needs
 word-in-requires-2 : tie.Need-word-in-requires-2
 word-in-requires-2 c κs = search needs
 
-kind-of-requires : tie.Need-kind-of-requires
-kind-of-requires c κs = search needs
+named-at-requires : tie.Need-named-at-requires
+named-at-requires c κs = search needs
 
 place-at-requires : tie.Need-place-at-requires
 place-at-requires c κs = search needs
@@ -34,8 +34,8 @@ enum-told-3 c = search needs
 word-in-requires-3 : tie.Need-word-in-requires-3
 word-in-requires-3 c κs = search needs
 
-kind-of-requires-2 : tie.Need-kind-of-requires-2
-kind-of-requires-2 c κs = search needs
+named-at-requires-2 : tie.Need-named-at-requires-2
+named-at-requires-2 c κs = search needs
 
 place-at-requires-2 : tie.Need-place-at-requires-2
 place-at-requires-2 c κs = search needs
@@ -46,8 +46,8 @@ at-span-requires-3 c κs = search needs
 enum-told-4 : tie.Need-enum-told-4
 enum-told-4 c = search needs
 
-kind-of-requires-3 : tie.Need-kind-of-requires-3
-kind-of-requires-3 c κs = search needs
+named-at-requires-3 : tie.Need-named-at-requires-3
+named-at-requires-3 c κs = search needs
 
 place-at-requires-3 : tie.Need-place-at-requires-3
 place-at-requires-3 c κs = search needs
@@ -121,15 +121,15 @@ returns c = (rw (c .before .before .enum-told .given .1, ← c .before .word-in 
 
 returns-2 : tie.Need-returns-2
 unfolding blameIn
-returns-2 c = (rw (c .before .before .before .before .enum-told2 .given .1, ← c .before .before .before .word-in2 .ensures .0, ← c .before .before .kind-of .ensures, ← c .before .place-at .ensures) (c .at-span2 .ensures), rw (c .at-span2 .ensures) (c .before .before .before .word-in2 .ensures .1))
+returns-2 c = (rw (c .before .before .before .before .enum-told2 .given .1, ← c .before .before .before .word-in2 .ensures .0, ← c .before .before .named-at .ensures, ← c .before .place-at .ensures) (c .at-span2 .ensures), rw (c .at-span2 .ensures) (c .before .before .before .word-in2 .ensures .1))
 
 returns-3 : tie.Need-returns-3
 unfolding blameIn
-returns-3 c = (rw (c .before .before .before .before .enum-told3 .given .1, ← c .before .before .before .word-in3 .ensures .0, ← c .before .before .kind-of2 .ensures, ← c .before .place-at2 .ensures) (c .at-span3 .ensures), rw (c .at-span3 .ensures) (c .before .before .before .word-in3 .ensures .1))
+returns-3 c = (rw (c .before .before .before .before .enum-told3 .given .1, ← c .before .before .before .word-in3 .ensures .0, ← c .before .before .named-at2 .ensures, ← c .before .place-at2 .ensures) (c .at-span3 .ensures), rw (c .at-span3 .ensures) (c .before .before .before .word-in3 .ensures .1))
 
 returns-4 : tie.Need-returns-4
 unfolding blameIn
-returns-4 c = (rw (c .before .before .before .enum-told4 .given .1, ← c .before .before .kind-of3 .ensures, ← c .before .place-at3 .ensures) (c .nowhere .ensures), rw (c .nowhere .ensures) ((omega arith, omega arith)))
+returns-4 c = (rw (c .before .before .before .enum-told4 .given .1, ← c .before .before .named-at3 .ensures, ← c .before .place-at3 .ensures) (c .nowhere .ensures), rw (c .nowhere .ensures) ((omega arith, omega arith)))
 
 returns-5 : tie.Need-returns-5
 unfolding blameIn
@@ -172,16 +172,16 @@ blame-in-spec =
     at-span-requires
     enum-told-2
     word-in-requires-2
-    kind-of-requires
+    named-at-requires
     place-at-requires
     at-span-requires-2
     enum-told-3
     word-in-requires-3
-    kind-of-requires-2
+    named-at-requires-2
     place-at-requires-2
     at-span-requires-3
     enum-told-4
-    kind-of-requires-3
+    named-at-requires-3
     place-at-requires-3
     nowhere-requires
     enum-told-5

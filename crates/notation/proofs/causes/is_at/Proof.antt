@@ -37,15 +37,15 @@ enum-told-4 c = search needs
 shared-slice-read-result-2 : tie.Need-shared-slice-read-result-2
 shared-slice-read-result-2 c = search needs
 
-enum-told-5 : tie.Need-enum-told-5
-enum-told-5 c = search needs
+enum-known-m : tie.Need-enum-known-m
+enum-known-m c = search needs
 
 ends-with-requires : tie.Need-ends-with-requires
 ends-with-requires c κs = search needs
 
 returns : tie.Need-returns
 unfolding isAt
-returns c = rw (c .before .before .enum-told5 .given .1, sym (c .before .ends-with .ensures) ∙ not-true _ (c .if1 .taken))
+returns c = rw (c .before .before .before .m .given .1, sym (c .before .ends-with .ensures) ∙ not-true _ (c .if1 .taken))
 
 add-end : tie.Need-add-end
 add-end c = search needs
@@ -77,7 +77,7 @@ returns-5 c = rw (c .before .enum-told4 .given .1)
 
 returns-6 : tie.Need-returns-6
 unfolding isAt
-returns-6 c = rw (c .before .before .before .before .before .enum-told5 .given .1, sym (c .before .before .before .before .ends-with .ensures) ∙ not-false _ (c .before .before .before .if1 .left), ← c .before .parse-line .ensures) (c .is-wrong .ensures)
+returns-6 c = rw (c .before .before .before .before .before .before .m .given .1, sym (c .before .before .before .before .ends-with .ensures) ∙ not-false _ (c .before .before .before .if1 .left), ← c .before .parse-line .ensures) (c .is-wrong .ensures)
 
 pub is-at-spec : {M : Type 1} → statement M
 is-at-spec =
@@ -93,7 +93,7 @@ is-at-spec =
     is-blank-requires-2
     enum-told-4
     shared-slice-read-result-2
-    enum-told-5
+    enum-known-m
     ends-with-requires
     returns
     add-end

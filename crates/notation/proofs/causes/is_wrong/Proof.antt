@@ -1,3 +1,5 @@
+use mathlib.Core.Logic.{⊎-elim}
+use borrow.Author.Tests.{eq-eqb, ne-eqb, lt-ltb, le-ltb, le-leb, lt-leb}
 use Rattle.notation.specs.Blame.{isWrong}
 use borrow.Author.Needs.{needs}
 use Rattle.notation.proofs.causes.is_wrong.Statement.{statement}
@@ -11,6 +13,12 @@ enum-told-2 c = search needs
 
 enum-told-3 : tie.Need-enum-told-3
 enum-told-3 c = search needs
+
+enum-told-4 : tie.Need-enum-told-4
+enum-told-4 c = search needs
+
+enum-told-5 : tie.Need-enum-told-5
+enum-told-5 c = search needs
 
 enum-known-said : tie.Need-enum-known-said
 enum-known-said c = search needs
@@ -32,7 +40,15 @@ returns-3 c = simp (c .enum-told3 .given .1)
 
 returns-4 : tie.Need-returns-4
 unfolding isWrong
-returns-4 c = simp (c .before .before .said .given .1, c .is-missing .ensures)
+returns-4 c = simp (c .enum-told4 .given .1)
+
+returns-5 : tie.Need-returns-5
+unfolding isWrong
+returns-5 c = simp (c .enum-told5 .given .1)
+
+returns-6 : tie.Need-returns-6
+unfolding isWrong
+returns-6 c = simp (c .before .before .said .given .1, c .is-missing .ensures)
 
 pub is-wrong-spec : {M : Type 1} → statement M
 is-wrong-spec =
@@ -41,9 +57,13 @@ is-wrong-spec =
     enum-told
     enum-told-2
     enum-told-3
+    enum-told-4
+    enum-told-5
     enum-known-said
     is-missing-requires
     returns
     returns-2
     returns-3
-    returns-4)
+    returns-4
+    returns-5
+    returns-6)

@@ -1,5 +1,6 @@
+use mathlib.Core.Logic.{⊎-elim}
+use borrow.Author.Tests.{eq-eqb, ne-eqb, lt-ltb, le-ltb, le-leb, lt-leb}
 use Rattle.notation.specs.Blame.{refusalOf}
-use borrow.Author.Tests.{eq-eqb, ne-eqb}
 use borrow.Author.Needs.{needs}
 use Rattle.notation.proofs.causes.refusal.Statement.{statement}
 use Rattle.notation.proofs.causes.refusal.Tie as tie
@@ -36,21 +37,43 @@ returns-5 c = simp (c .before .before .before .before .before .said .given .1, n
 enum-told-3 : tie.Need-enum-told-3
 enum-told-3 c = search needs
 
+enum-known-said-2 : tie.Need-enum-known-said-2
+enum-known-said-2 c = search needs
+
 returns-6 : tie.Need-returns-6
 unfolding refusalOf
-returns-6 c = simp (c .enum-told .given .1)
+returns-6 c = simp (c .before .before .said2 .given .1, eq-eqb _ _ (c .if6 .taken))
 
 returns-7 : tie.Need-returns-7
 unfolding refusalOf
-returns-7 c = simp (c .before .enum-told2 .given .1, ne-eqb _ _ (c .if1 .left))
+returns-7 c = simp (c .before .before .before .said2 .given .1, ne-eqb _ _ (c .before .if6 .left), eq-eqb _ _ (c .if7 .taken))
+
+enum-told-4 : tie.Need-enum-told-4
+enum-told-4 c = search needs
 
 returns-8 : tie.Need-returns-8
 unfolding refusalOf
-returns-8 c = simp (c .before .before .before .before .before .said .given .1, ne-eqb _ _ (c .before .before .before .if2 .left), ne-eqb _ _ (c .before .before .if3 .left), ne-eqb _ _ (c .before .if4 .left), ne-eqb _ _ (c .if5 .left))
+returns-8 c = simp (c .enum-told .given .1)
 
 returns-9 : tie.Need-returns-9
 unfolding refusalOf
-returns-9 c = simp (c .enum-told3 .given .1)
+returns-9 c = simp (c .before .enum-told2 .given .1, ne-eqb _ _ (c .if1 .left))
+
+returns-10 : tie.Need-returns-10
+unfolding refusalOf
+returns-10 c = simp (c .before .before .before .before .before .said .given .1, ne-eqb _ _ (c .before .before .before .if2 .left), ne-eqb _ _ (c .before .before .if3 .left), ne-eqb _ _ (c .before .if4 .left), ne-eqb _ _ (c .if5 .left))
+
+returns-11 : tie.Need-returns-11
+unfolding refusalOf
+returns-11 c = simp (c .enum-told3 .given .1)
+
+returns-12 : tie.Need-returns-12
+unfolding refusalOf
+returns-12 c = simp (c .before .before .before .said2 .given .1, ne-eqb _ _ (c .before .if6 .left), ne-eqb _ _ (c .if7 .left))
+
+returns-13 : tie.Need-returns-13
+unfolding refusalOf
+returns-13 c = simp (c .enum-told4 .given .1)
 
 pub refusal-spec : {M : Type 1} → statement M
 refusal-spec =
@@ -65,7 +88,13 @@ refusal-spec =
     returns-4
     returns-5
     enum-told-3
+    enum-known-said-2
     returns-6
     returns-7
+    enum-told-4
     returns-8
-    returns-9)
+    returns-9
+    returns-10
+    returns-11
+    returns-12
+    returns-13)

@@ -10,8 +10,8 @@ first-in-requires c κs = search needs
 after-last-requires : tie.Need-after-last-requires
 after-last-requires c κs = search needs
 
-add-t8 : tie.Need-add-t8
-add-t8 c = search needs
+add-t9 : tie.Need-add-t9
+add-t9 c = search needs
 
 returns : tie.Need-returns
 unfolding wordIn
@@ -22,4 +22,4 @@ unfolding wordIn
 returns-2 c = (rw (← c .before .first-in .ensures .0, le-ltb _ _ (c .if1 .left)), (search needs, search needs))
 
 pub word-in-spec : {M : Type 1} → statement M
-word-in-spec = tie.close (tie.spec first-in-requires after-last-requires add-t8 returns returns-2)
+word-in-spec = tie.close (tie.spec first-in-requires after-last-requires add-t9 returns returns-2)

@@ -1,4 +1,4 @@
-use Rattle.notation.specs.Grammar.{holdIn}
+use Rattle.notation.specs.Grammar.{optionIn}
 use borrow.Author.Needs.{needs}
 use Rattle.notation.proofs.grammar.hold.Statement.{statement}
 use Rattle.notation.proofs.grammar.hold.Tie as tie
@@ -16,15 +16,15 @@ is-word-requires : tie.Need-is-word-requires
 is-word-requires c κs = search needs
 
 returns : tie.Need-returns
-unfolding holdIn
+unfolding optionIn
 returns c = (simp (c .before .before .before .before .before .next-word .ensures, c .before .before .before .step .given .1, ← c .before .is-word .ensures, c .if1 .taken), search needs)
 
 returns-2 : tie.Need-returns-2
-unfolding holdIn
+unfolding optionIn
 returns-2 c = (simp (c .before .before .next-word .ensures, c .enum-told .given .1), search needs)
 
 returns-3 : tie.Need-returns-3
-unfolding holdIn
+unfolding optionIn
 returns-3 c = (simp (c .before .before .before .before .before .next-word .ensures, c .before .before .before .step .given .1, ← c .before .is-word .ensures, c .if1 .left), search needs)
 
 pub hold-spec : {M : Type 1} → statement M

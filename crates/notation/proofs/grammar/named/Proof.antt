@@ -4,28 +4,42 @@ use borrow.Author.Needs.{needs}
 use Rattle.notation.proofs.grammar.named.Statement.{statement}
 use Rattle.notation.proofs.grammar.named.Tie as tie
 
-is-kind-requires : tie.Need-is-kind-requires
-is-kind-requires c κs = search needs
-
-of-kind-requires : tie.Need-of-kind-requires
-of-kind-requires c κs = search needs
-
-returns : tie.Need-returns
-unfolding namedOf
-returns c = simp (← c .before .before .is-kind .ensures, c .before .if1 .taken, c .of-kind .ensures)
-
 nodes-requires : tie.Need-nodes-requires
 nodes-requires c κs = search needs
 
+returns : tie.Need-returns
+unfolding namedOf
+returns c = simp (eq-eqb _ _ (c .before .if1 .taken), c .nodes .ensures)
+
+enum-told : tie.Need-enum-told
+enum-told c = search needs
+
+of-run-requires : tie.Need-of-run-requires
+of-run-requires c κs = search needs
+
+enum-told-2 : tie.Need-enum-told-2
+enum-told-2 c = search needs
+
+of-settings-requires : tie.Need-of-settings-requires
+of-settings-requires c κs = search needs
+
 returns-2 : tie.Need-returns-2
 unfolding namedOf
-returns-2 c = simp (← c .before .before .before .is-kind .ensures, c .before .before .if1 .left, eq-eqb _ _ (c .before .if2 .taken), c .nodes .ensures)
+returns-2 c = simp (ne-eqb _ _ (c .before .before .before .if1 .left), c .before .enum-told .given .1, c .of-run .ensures)
 
 returns-3 : tie.Need-returns-3
 unfolding namedOf
-returns-3 c = simp (← c .before .before .is-kind .ensures, c .before .if1 .left, ne-eqb _ _ (c .if2 .left))
+returns-3 c = simp (ne-eqb _ _ (c .before .before .before .if1 .left), c .before .enum-told2 .given .1, c .of-settings .ensures)
 
 pub named-spec : {M : Type 1} → statement M
 named-spec =
     tie.close
-    (tie.spec is-kind-requires of-kind-requires returns nodes-requires returns-2 returns-3)
+    (tie.spec
+    nodes-requires
+    returns
+    enum-told
+    of-run-requires
+    enum-told-2
+    of-settings-requires
+    returns-2
+    returns-3)

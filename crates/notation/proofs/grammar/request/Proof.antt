@@ -68,8 +68,8 @@ returns-4 : tie.Need-returns-4
 unfolding requestOf
 returns-4 c = simp (← c .before .before .before .before .before .before .before .before .before .before .before .before .before .before .before .number .ensures .0, c .before .before .before .before .before .before .before .before .before .before .before .before .before .first .given .1, ← c .before .before .before .before .before .before .before .before .before .before .before .address .ensures .0, c .before .before .before .before .before .before .before .before .before .second .given .1, ← c .before .before .before .before .before .before .before .number2 .ensures .0, c .before .before .before .before .before .third .given .1, ← c .before .before .before .number3 .ensures .0, c .before .enum-told4 .given .1, c .fault-of4 .ensures)
 
-label-requires : tie.Need-label-requires
-label-requires c κs = search needs
+said-requires : tie.Need-said-requires
+said-requires c κs = search needs
 
 enum-known-fifth : tie.Need-enum-known-fifth
 enum-known-fifth c = search needs
@@ -82,7 +82,7 @@ fault-of-requires-5 c κs = search needs
 
 returns-5 : tie.Need-returns-5
 unfolding requestOf
-returns-5 c = simp (← c .before .before .before .before .before .before .before .before .before .before .before .before .before .before .before .before .before .before .before .number .ensures .0, c .before .before .before .before .before .before .before .before .before .before .before .before .before .before .before .before .before .first .given .1, ← c .before .before .before .before .before .before .before .before .before .before .before .before .before .before .before .address .ensures .0, c .before .before .before .before .before .before .before .before .before .before .before .before .before .second .given .1, ← c .before .before .before .before .before .before .before .before .before .before .before .number2 .ensures .0, c .before .before .before .before .before .before .before .before .before .third .given .1, ← c .before .before .before .before .before .before .before .number3 .ensures .0, c .before .before .before .before .before .fourth .given .1, ← c .before .before .before .label .ensures .0, c .before .enum-told5 .given .1, c .fault-of5 .ensures)
+returns-5 c = simp (← c .before .before .before .before .before .before .before .before .before .before .before .before .before .before .before .before .before .before .before .number .ensures .0, c .before .before .before .before .before .before .before .before .before .before .before .before .before .before .before .before .before .first .given .1, ← c .before .before .before .before .before .before .before .before .before .before .before .before .before .before .before .address .ensures .0, c .before .before .before .before .before .before .before .before .before .before .before .before .before .second .given .1, ← c .before .before .before .before .before .before .before .before .before .before .before .number2 .ensures .0, c .before .before .before .before .before .before .before .before .before .third .given .1, ← c .before .before .before .before .before .before .before .number3 .ensures .0, c .before .before .before .before .before .fourth .given .1, ← c .before .before .before .said .ensures .0, c .before .enum-told5 .given .1, c .fault-of5 .ensures)
 
 cast-action : tie.Need-cast-action
 cast-action c = let small = rw (c .before .before .before .before .before .before .before .before .before .before .before .before .before .before .before .before .before .first .given .1) at (c .before .before .before .before .before .before .before .before .before .before .before .before .before .before .before .before .before .before .before .number .ensures .1) in omega arith
@@ -91,7 +91,7 @@ cast-action-2 : tie.Need-cast-action-2
 cast-action-2 c = let small = rw (c .before .before .before .before .before .before .before .before .before .before .before .before .before .second .given .1) at (c .before .before .before .before .before .before .before .before .before .before .before .before .before .before .before .address .ensures .1) in omega arith
 
 cast-action-3 : tie.Need-cast-action-3
-cast-action-3 c = let small = rw (c .before .fifth .given .1) at (c .before .before .before .label .ensures .1) in omega arith
+cast-action-3 c = let small = rw (c .before .fifth .given .1) at (c .before .before .before .said .ensures .1) in omega arith
 
 action-requires : tie.Need-action-requires
 action-requires c κs = search needs
@@ -101,7 +101,7 @@ ending-requires c κs = search needs
 
 returns-6 : tie.Need-returns-6
 unfolding requestOf
-returns-6 c = simp (← c .before .before .before .before .before .before .before .before .before .before .before .before .before .before .before .before .before .before .before .before .before .number .ensures .0, c .before .before .before .before .before .before .before .before .before .before .before .before .before .before .before .before .before .before .before .first .given .1, ← c .before .before .before .before .before .before .before .before .before .before .before .before .before .before .before .before .before .address .ensures .0, c .before .before .before .before .before .before .before .before .before .before .before .before .before .before .before .second .given .1, ← c .before .before .before .before .before .before .before .before .before .before .before .before .before .number2 .ensures .0, c .before .before .before .before .before .before .before .before .before .before .before .third .given .1, ← c .before .before .before .before .before .before .before .before .before .number3 .ensures .0, c .before .before .before .before .before .before .before .fourth .given .1, ← c .before .before .before .before .before .label .ensures .0, c .before .before .before .fifth .given .1, c .before .action .ensures, c .ending .ensures)
+returns-6 c = simp (← c .before .before .before .before .before .before .before .before .before .before .before .before .before .before .before .before .before .before .before .before .before .number .ensures .0, c .before .before .before .before .before .before .before .before .before .before .before .before .before .before .before .before .before .before .before .first .given .1, ← c .before .before .before .before .before .before .before .before .before .before .before .before .before .before .before .before .before .address .ensures .0, c .before .before .before .before .before .before .before .before .before .before .before .before .before .before .before .second .given .1, ← c .before .before .before .before .before .before .before .before .before .before .before .before .before .number2 .ensures .0, c .before .before .before .before .before .before .before .before .before .before .before .third .given .1, ← c .before .before .before .before .before .before .before .before .before .number3 .ensures .0, c .before .before .before .before .before .before .before .fourth .given .1, ← c .before .before .before .before .before .said .ensures .0, c .before .before .before .fifth .given .1, c .before .action .ensures, c .ending .ensures)
 
 pub request-spec : {M : Type 1} → statement M
 request-spec =
@@ -127,7 +127,7 @@ request-spec =
     enum-told-4
     fault-of-requires-4
     returns-4
-    label-requires
+    said-requires
     enum-known-fifth
     enum-told-5
     fault-of-requires-5

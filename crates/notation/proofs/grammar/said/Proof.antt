@@ -1,7 +1,7 @@
-use Rattle.notation.specs.Grammar.{labelIn}
+use Rattle.notation.specs.Grammar.{optionIn}
 use borrow.Author.Needs.{needs}
-use Rattle.notation.proofs.grammar.label.Statement.{statement}
-use Rattle.notation.proofs.grammar.label.Tie as tie
+use Rattle.notation.proofs.grammar.said.Statement.{statement}
+use Rattle.notation.proofs.grammar.said.Tie as tie
 
 next-word-requires : tie.Need-next-word-requires
 next-word-requires c κs = search needs
@@ -19,19 +19,19 @@ number-requires : tie.Need-number-requires
 number-requires c κs = search needs
 
 returns : tie.Need-returns
-unfolding labelIn
+unfolding optionIn
 returns c = (simp (c .before .before .before .before .before .before .next-word .ensures, c .before .before .before .before .step .given .1, ← c .before .before .is-word .ensures, c .before .if1 .taken, c .number .ensures .0), c .number .ensures .1)
 
 returns-2 : tie.Need-returns-2
-unfolding labelIn
+unfolding optionIn
 returns-2 c = (simp (c .before .before .next-word .ensures, c .enum-told .given .1), search needs)
 
 returns-3 : tie.Need-returns-3
-unfolding labelIn
+unfolding optionIn
 returns-3 c = (simp (c .before .before .before .before .before .next-word .ensures, c .before .before .before .step .given .1, ← c .before .is-word .ensures, c .if1 .left), search needs)
 
-pub label-spec : {M : Type 1} → statement M
-label-spec =
+pub said-spec : {M : Type 1} → statement M
+said-spec =
     tie.close
     (tie.spec
     next-word-requires
