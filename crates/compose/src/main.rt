@@ -4,9 +4,10 @@ ghost use mathlib.Core.Path.{_≡_};
 ghost use Prim.Native.Nat.{_≤_};
 ghost use lib.ListN.{length};
 use composer::Composer;
-use composer::Stage;
 use faults::Fault;
 use libc::STDERR_FILENO;
+use notation::Stage;
+use notation::Text;
 use stream::Held;
 use stream::Place;
 
@@ -28,7 +29,7 @@ struct Reading {
 
 // A fault or a failed write ends a text.
 fn is_over(stage: Stage, held: Held) -> bool {
-    composer::is_stopped(stage) || !held.whole
+    notation::is_stopped(stage) || !held.whole
 }
 
 fn after(c: Composer, held: Held, len: usize) -> Reading
@@ -217,7 +218,7 @@ fn finish(r: Reading, line: &[u8], spans: bool, out: &mut [u8]) -> Reading
 fn report_fault(n: u8, number: u64, fault: Fault, line: &[u8], text: &mut [u8])
     requires { ⌜ length (now text) ≡ 512 ⌝ }
 {
-    let b = notation::blame(n, line, fault);
+    let b = notation::blame(Text::Run, n, line, fault);
     let cause = b.cause;
     let from = b.from;
     let to = b.to;

@@ -15,7 +15,7 @@ use Rattle.record.proofs.Round.{length-bytes}
 use Rattle.runfile.specs.Write.{writeNumber, blockOf}
 use Rattle.runfile.proofs.Lists.{records-length}
 use Rattle.runfile.proofs.Rows.{stored-size, stored-holds}
-use Rattle.composer.specs.declared.Stage.the-variants.{Going}
+use Rattle.notation.specs.declared.Stage.the-variants.{Going}
 use Rattle.composer.specs.declared.Composer.{Composer}
 use Rattle.notation.specs.Words.{limit}
 use Rattle.composer.specs.Composer.{quiet, stored, withBlock, recordsIn, flushOf, heldAfter, putOf, putHeld}

@@ -15,21 +15,19 @@ use Rattle.charts.specs.declared.Decoded.the-variants as D
 use Rattle.record.specs.Bytes.{bound}
 use Rattle.faults.specs.declared.Fault.{Fault}
 use Rattle.faults.specs.declared.Fault.the-variants as F
+use Rattle.notation.specs.declared.Text.the-variants.{Run}
 use Rattle.notation.specs.declared.Line.{Line}
 use Rattle.notation.specs.declared.Line.the-variants as L
 use Rattle.notation.specs.Grammar.{lineOf}
-use Rattle.notation.specs.Meaning.{Said, on, off, readOn, lineOn, Accepts}
+use Rattle.notation.specs.Reading.{counted, lineShown, nodesStage}
+use Rattle.notation.specs.Meaning.{Said, on, off, readOn, nodesOn, lineOn, Accepts}
 use Rattle.notation.proofs.Fitting.{Fitting, line-fitting}
-use Rattle.composer.specs.declared.Stage.the-variants.{Stopped}
+use Rattle.notation.specs.declared.Stage.{Stage}
+use Rattle.notation.specs.declared.Stage.the-variants.{Going, Stopped}
 use Rattle.composer.specs.declared.Composer.{Composer}
-use Rattle.composer.specs.Composer.{stopped, onLine, counted, forNodes, toPut, readTaken, nodesTaken, actionTaken, lineTaken, feedOf, putOf, finishOf}
+use Rattle.composer.specs.Composer.{stopped, onLine, forNodes, toPut, nodesAs, readTaken, nodesTaken, actionTaken, lineTaken, feedOf, putOf, finishOf}
 use Rattle.composer.specs.Composed.{putTimes, putBytes, settled, endsFrom}
 use Rattle.composer.proofs.Standing.{Stands, same-block, parts-length, puts}
-
--- the number that a composer shows for line i
-abbrev pub lineShown : ℕ → ℕ
-lineShown zero = 0
-lineShown (suc i) = counted (lineShown i)
 
 -- a composer after i lines that gave n (0 before the `nodes` line) and the actions of l, all put
 pub record After (i n : ℕ) (l : List Action) (bytes : List ℕ) (c : Composer) : Type 0 where
@@ -43,6 +41,17 @@ pub record After (i n : ℕ) (l : List Action) (bytes : List ℕ) (c : Composer)
 abbrev pub Goes : ℕ → List ℕ → Composer → Said → Type 0
 Goes i bytes c (on n l) = length l ≤ 31 * bound 4 → After i n l (bytes ++ putBytes (c .left) c) (settled c)
 Goes i bytes c (off f) = (c .stage ≡ Stopped f) × (c .line ≡ lineShown i)
+
+-- a `nodes` line with which a text goes on is its first, and 1 does not refuse it
+sized-nodes : (n m : ℕ) → nodesStage n m ≡ Going → (eqb n 0 ≡ true) × (isSize m ≡ true)
+unfolding nodesStage
+sized-nodes n m e = go (eqb n 0) (isSize m) refl refl e
+  where
+    go : (b s : Bool) → eqb n 0 ≡ b → isSize m ≡ s → cond (not b) (Stopped F.NodesAgain) (cond (not s) (Stopped (F.Refused N.wrong-size)) Going) ≡ Going
+        → (eqb n 0 ≡ true) × (isSize m ≡ true)
+    go true true p q h = (p, q)
+    go true false p q h = absurd (let z : _≡_ {A = ℕ} 0 1 = cc in omega arith)
+    go false s p q h = absurd (let z : _≡_ {A = ℕ} 0 1 = cc in omega arith)
 
 none-put : {i n : ℕ} {l : List Action} {bytes : List ℕ} {c : Composer} (k : ℕ) → k ≡ 0 → After i n l bytes c → After i n l (bytes ++ putBytes k c) (putTimes k c)
 none-put {bytes = bytes} zero e a = rw (append-nil bytes) a
@@ -108,15 +117,11 @@ module _ (i n : ℕ) (l : List Action) (bytes : List ℕ) (c : Composer) (a : Af
 
   nodes-line : (m : ℕ) → Goes (suc i) bytes (lineTaken next (L.Nodes m)) (lineOn n l (L.Nodes m))
   unfolding lineTaken nodesTaken
-  nodes-line m = rw (ap (λ (x : ℕ). eqb x 0) (a .stands .at .nodes)) (go (eqb n 0) (isSize m) refl refl)
+  nodes-line m = rw (ap (λ (x : ℕ). nodesStage x m) (a .stands .at .nodes)) (go (nodesStage n m) (λ e. nodes-go m (sized-nodes n m e .0) (sized-nodes n m e .1)))
     where
-      go : (b s : Bool) → eqb n 0 ≡ b → isSize m ≡ s
-          → Goes (suc i) bytes
-          (cond (not b) (stopped next F.NodesAgain) (cond (not s) (stopped next (F.Refused N.wrong-size)) (forNodes next m)))
-          (cond (not b) (off F.NodesAgain) (cond (not s) (off (F.Refused N.wrong-size)) (on m l)))
-      go true true p q = nodes-go m p q
-      go true false p q = (refl, next-line)
-      go false s p q = (refl, next-line)
+      go : (s : Stage) → (s ≡ Going → Goes (suc i) bytes (forNodes next m) (on m l)) → Goes (suc i) bytes (nodesAs next m s) (nodesOn m l s)
+      go Going f = f refl
+      go (Stopped f) g = (refl, next-line)
 
   action-line : (x : Action) (k : ℕ) → Fitting (L.Acts x k) → Goes (suc i) bytes (lineTaken next (L.Acts x k)) (lineOn n l (L.Acts x k))
   unfolding lineTaken actionTaken
@@ -135,14 +140,16 @@ module _ (i n : ℕ) (l : List Action) (bytes : List ℕ) (c : Composer) (a : Af
   line-goes L.Blank fits = blank-goes
   line-goes (L.Nodes m) fits = nodes-line m
   line-goes (L.Acts x k) fits = action-line x k fits
+  line-goes (L.Actions k) fits = (refl, next-line)
+  line-goes (L.User k u) fits = (refl, next-line)
   line-goes (L.Wrong f) fits = (refl, next-line)
 
-  fed : (t : List ℕ) → feedOf c t ≡ lineTaken next (lineOf t)
+  fed : (t : List ℕ) → feedOf c t ≡ lineTaken next (lineOf Run t)
   unfolding feedOf
   fed t = rw (a .stands .at .going, a .idle)
 
-  pub feed-goes : (t : List ℕ) → Goes (suc i) bytes (feedOf c t) (lineOn n l (lineOf t))
-  feed-goes t = rw (fed t) (line-goes (lineOf t) (line-fitting t))
+  pub feed-goes : (t : List ℕ) → Goes (suc i) bytes (feedOf c t) (lineOn n l (lineOf Run t))
+  feed-goes t = rw (fed t) (line-goes (lineOf Run t) (line-fitting Run t))
 
 -- a composer that has stopped takes no more
 module _ (c : Composer) (f : Fault) (h : c .stage ≡ Stopped f) where

@@ -8,8 +8,6 @@ use borrow.Author.Tests.{lt-ltb, ne-eqb, eqb-true, eqb-false}
 use lib.Dec.{eqb, ltb}
 use lib.ListN.{length, replicate, length-append, length-replicate}
 use lib.Seq.{take-all}
-use Rattle.charts.specs.Numbers as N
-use Rattle.charts.specs.Valid.{isSize}
 use Rattle.charts.specs.Records.{read}
 use Rattle.charts.specs.declared.Action.{Action}
 use Rattle.charts.specs.declared.Decoded.{Decoded}
@@ -20,19 +18,23 @@ use Rattle.runfile.specs.Write.{writeNumber, blockOf}
 use Rattle.runfile.specs.File.{blocksFor, fileFrom, fileOf, Taken}
 use Rattle.faults.specs.declared.Fault.{Fault}
 use Rattle.faults.specs.declared.Fault.the-variants as F
+use Rattle.notation.specs.declared.Text.the-variants.{Run}
 use Rattle.notation.specs.declared.Line.{Line}
 use Rattle.notation.specs.declared.Line.the-variants as L
 use Rattle.notation.specs.Words.{limit}
 use Rattle.notation.specs.Grammar.{lineOf}
-use Rattle.notation.specs.Meaning.{Meaning, run, wrong, Said, on, off, readOn, lineOn, endOn, afterLine, meaningFrom, linesOf, unmarked, meaningOf}
-use Rattle.composer.specs.declared.Stage.the-variants.{Going, Stopped}
+use Rattle.notation.specs.Meaning.{Meaning, run, wrong, Said, on, off, readOn, nodesOn, lineOn, endOn, afterLine, meaningFrom, linesOf, unmarked, meaningOf}
+use Rattle.notation.specs.declared.Stage.{Stage}
+use Rattle.notation.specs.declared.Stage.the-variants.{Going, Stopped}
 use Rattle.composer.specs.declared.Composer.{Composer}
 use Rattle.composer.specs.declared.Wrote.{Wrote}
 use Rattle.composer.specs.Composer.{stopped, withBlock, recordsIn, usedBy, quiet, flushOf, heldAfter, feedOf, finishOf, finishHeld}
 use Rattle.composer.specs.Composed.{begin, putBytes, settled, composedFrom, composed, endsFrom, ends, timesSaid, actionsIn}
 use Rattle.composer.proofs.Blocks.{At}
 use Rattle.composer.proofs.Standing.{takes, block-taken, file-of, under-accepted, parts-length}
-use Rattle.composer.proofs.Feeding.{lineShown, After, Goes, feed-goes, still}
+use Rattle.notation.specs.Reading.{lineShown, nodesStage}
+use Rattle.notation.proofs.Readers.{shown-small}
+use Rattle.composer.proofs.Feeding.{After, Goes, feed-goes, still}
 
 -- what a composer makes of the rest of a text with that meaning, `bytes` being written
 abbrev Outcome : List ℕ → List (List ℕ) → Composer → Meaning → Type 0
@@ -159,18 +161,19 @@ Grows size (off f) = Unit
 
 grows : (n : ℕ) (l : List Action) (x : Line) → Grows (length l + timesSaid x) (lineOn n l x)
 grows n l L.Blank = omega arith
-grows n l (L.Nodes m) = go (eqb n 0) (isSize m)
+grows n l (L.Nodes m) = go (nodesStage n m)
   where
-    go : (b s : Bool) → Grows (length l + 0) (cond (not b) (off F.NodesAgain) (cond (not s) (off (F.Refused N.wrong-size)) (on m l)))
-    go true true = omega arith
-    go true false = tt
-    go false s = tt
+    go : (s : Stage) → Grows (length l + 0) (nodesOn m l s)
+    go Going = omega arith
+    go (Stopped f) = tt
 grows n l (L.Acts a k) = go (eqb n 0) (read n a)
   where
     go : (b : Bool) (d : Decoded) → Grows (length l + k) (cond b (off F.NodesMissing) (readOn n l a k d))
     go true d = tt
     go false (D.Refused j) = tt
     go false (D.Accepted v) = let times = length-replicate k a in length-append l (replicate k a) ∙ omega arith
+grows n l (L.Actions k) = tt
+grows n l (L.User i u) = tt
 grows n l (L.Wrong f) = tt
 
 abbrev Sums : ℕ → Meaning → Type 0
@@ -184,12 +187,12 @@ sums [] i n l = go (eqb n 0) (eqb (length l) 0)
     go true s = tt
     go false true = tt
     go false false = omega arith
-sums (t ∷ ts) i n l = go (sums ts (suc i)) (lineOn n l (lineOf t)) (grows n l (lineOf t))
+sums (t ∷ ts) i n l = go (sums ts (suc i)) (lineOn n l (lineOf Run t)) (grows n l (lineOf Run t))
   where
-    go : ((m : ℕ) (k : List Action) → Sums (length k + actionsIn ts) (meaningFrom ts (suc i) m k)) → (s : Said) → Grows (length l + timesSaid (lineOf t)) s
-        → Sums (length l + (timesSaid (lineOf t) + actionsIn ts)) (afterLine (suc i) s (meaningFrom ts (suc i)))
+    go : ((m : ℕ) (k : List Action) → Sums (length k + actionsIn ts) (meaningFrom ts (suc i) m k)) → (s : Said) → Grows (length l + timesSaid (lineOf Run t)) s
+        → Sums (length l + (timesSaid (lineOf Run t) + actionsIn ts)) (afterLine (suc i) s (meaningFrom ts (suc i)))
     go later (on m k) g =
-        let e : length k + actionsIn ts ≡ length l + (timesSaid (lineOf t) + actionsIn ts) = omega arith in
+        let e : length k + actionsIn ts ≡ length l + (timesSaid (lineOf Run t) + actionsIn ts) = omega arith in
         rw e at (later m k)
     go later (off f) g = tt
 
@@ -205,9 +208,9 @@ line-first bytes t ts c (run n l) o =
 line-first bytes t ts c (wrong i f) o = o
 
 one-line : (t : List ℕ) (ts : List (List ℕ)) → Outcomes ts → Outcomes (t ∷ ts)
-one-line t ts later i n l bytes c a few = go (lineOn n l (lineOf t)) (grows n l (lineOf t)) (feed-goes i n l bytes c a t)
+one-line t ts later i n l bytes c a few = go (lineOn n l (lineOf Run t)) (grows n l (lineOf Run t)) (feed-goes i n l bytes c a t)
   where
-    go : (s : Said) → Grows (length l + timesSaid (lineOf t)) s → Goes (suc i) bytes (feedOf c t) s → Outcome bytes (t ∷ ts) c (afterLine (suc i) s (meaningFrom ts (suc i)))
+    go : (s : Said) → Grows (length l + timesSaid (lineOf Run t)) s → Goes (suc i) bytes (feedOf c t) s → Outcome bytes (t ∷ ts) c (afterLine (suc i) s (meaningFrom ts (suc i)))
     go (on m k) g w =
         line-first bytes t ts c (meaningFrom ts (suc i) m k)
         (later (suc i) m k (bytes ++ putBytes (feedOf c t .left) (feedOf c t)) (settled (feedOf c t)) (w (omega arith)) (omega arith))
@@ -253,11 +256,6 @@ unfolding composed ends
 composes text n l h few =
     let size = rw h at (count-of text) in
     rw h at (of-text text (omega arith))
-
--- the number shown for a line is its number, as far as 64 bits hold it
-shown-small : (i : ℕ) → i < 2 ^ 64 → lineShown i ≡ i
-shown-small zero h = refl
-shown-small (suc i) h = rw (shown-small i (omega arith), lt-ltb i 18446744073709551615 (omega arith)) (omega arith)
 
 -- a text that is wrong leaves the composer stopped with that fault on that line
 pub stops : (text : List ℕ) (i : ℕ) (f : Fault) → meaningOf text ≡ wrong i f → actionsIn (linesOf (unmarked text)) ≤ 31 * bound 4 → i < 2 ^ 64

@@ -3,8 +3,10 @@ use mathlib.Core.List.{List, [], _∷_, _++_}
 use Prim.Native.Nat.{ℕ, zero, suc, _+_}
 use lib.ListN.{replicate}
 use Rattle.record.specs.Layout.{blank}
+use Rattle.notation.specs.declared.Text.the-variants.{Run}
 use Rattle.notation.specs.declared.Line.{Line}
-use Rattle.notation.specs.declared.Line.the-variants.{Blank, Nodes, Acts, Wrong}
+use Rattle.notation.specs.declared.Line.the-variants.{Blank, Nodes, Acts, Actions, Wrong}
+use Rattle.notation.specs.declared.Line.the-variants as L
 use Rattle.notation.specs.Grammar.{lineOf}
 use Rattle.notation.specs.Meaning.{linesOf, unmarked}
 use Rattle.composer.specs.declared.Composer.{Composer}
@@ -45,8 +47,10 @@ abbrev pub timesSaid : Line → ℕ
 timesSaid Blank = 0
 timesSaid (Nodes n) = 0
 timesSaid (Acts a k) = k
+timesSaid (Actions k) = 0
+timesSaid (L.User i u) = 0
 timesSaid (Wrong f) = 0
 
 abbrev pub actionsIn : List (List ℕ) → ℕ
 actionsIn [] = 0
-actionsIn (t ∷ ts) = timesSaid (lineOf t) + actionsIn ts
+actionsIn (t ∷ ts) = timesSaid (lineOf Run t) + actionsIn ts

@@ -5,7 +5,6 @@ use Prim.Native.Nat.{ℕ, _+_, _*_, _-_}
 use lib.Dec.{eqb, ltb}
 use lib.ListN.{take}
 use Rattle.charts.specs.Numbers as N
-use Rattle.charts.specs.Valid.{isSize}
 use Rattle.charts.specs.Records.{read}
 use Rattle.charts.specs.declared.Action.{Action}
 use Rattle.charts.specs.declared.Decoded.{Decoded}
@@ -14,19 +13,18 @@ use Rattle.record.specs.Bytes.{putAt}
 use Rattle.record.specs.Layout.{bytesOf}
 use Rattle.runfile.specs.Write.{writeNumber, blockWith}
 use Rattle.faults.specs.declared.Fault.{Fault}
-use Rattle.faults.specs.declared.Fault.the-variants.{NodesMissing, NodesAgain, NoAction, TooMany, Refused}
+use Rattle.faults.specs.declared.Fault.the-variants.{UnknownWord, NodesMissing, NoAction, TooMany, Refused}
+use Rattle.notation.specs.declared.Text.the-variants.{Run}
 use Rattle.notation.specs.declared.Line.{Line}
-use Rattle.notation.specs.declared.Line.the-variants.{Blank, Nodes, Acts, Wrong}
-use Rattle.composer.specs.declared.Stage.{Stage}
-use Rattle.composer.specs.declared.Stage.the-variants.{Going, Stopped}
+use Rattle.notation.specs.declared.Line.the-variants.{Blank, Nodes, Acts, Actions, Wrong}
+use Rattle.notation.specs.declared.Line.the-variants as L
+use Rattle.notation.specs.declared.Stage.{Stage}
+use Rattle.notation.specs.declared.Stage.the-variants.{Going, Stopped}
 use Rattle.composer.specs.declared.Composer.{Composer}
 use Rattle.composer.specs.declared.Wrote.{Wrote}
 use Rattle.notation.specs.Words.{limit}
 use Rattle.notation.specs.Grammar.{lineOf}
-
-abbrev pub isStopped : Stage → Bool
-isStopped Going = false
-isStopped (Stopped f) = true
+use Rattle.notation.specs.Reading.{isStopped, counted, nodesStage}
 
 -- the composer stopped by a fault; on the next line; with so many nodes; with an action to put so often
 abbrev pub stopped : Composer → Fault → Composer
@@ -89,16 +87,13 @@ withBlock c blocks count records left = record {
   left = left;
 }
 
--- lines are counted from 1; the count stops at the largest number of 64 bits
-abbrev pub counted : ℕ → ℕ
-counted line = cond (ltb line 18446744073709551615) (line + 1) line
-
 -- "`nodes 3` first": once, and 1 refuses n
+abbrev pub nodesAs : Composer → ℕ → Stage → Composer
+nodesAs c n Going = forNodes c n
+nodesAs c n (Stopped f) = stopped c f
+
 unfoldable pub nodesTaken : Composer → ℕ → Composer
-nodesTaken c n =
-    cond (not (eqb (c .n) 0)) (stopped c NodesAgain)
-    (cond (not (isSize n)) (stopped c (Refused N.wrong-size))
-    (forNodes c n))
+nodesTaken c n = nodesAs c n (nodesStage (c .n) n)
 
 -- "the paper's number 1 to 6 for what the writer would refuse"
 abbrev pub readTaken : Composer → Action → ℕ → Decoded → Composer
@@ -108,10 +103,13 @@ readTaken c a k (D.Accepted m) = toPut c a k
 unfoldable pub actionTaken : Composer → Action → ℕ → Composer
 actionTaken c a k = cond (eqb (c .n) 0) (stopped c NodesMissing) (readTaken c a k (read (c .n) a))
 
+-- a run has no lines of settings
 unfoldable pub lineTaken : Composer → Line → Composer
 lineTaken c Blank = c
 lineTaken c (Nodes n) = nodesTaken c n
 lineTaken c (Acts a k) = actionTaken c a k
+lineTaken c (Actions k) = stopped c UnknownWord
+lineTaken c (L.User i u) = stopped c UnknownWord
 lineTaken c (Wrong f) = stopped c f
 
 -- a line fed to the composer. One that has stopped, or has still an action to put, takes none.
@@ -119,7 +117,7 @@ unfoldable pub feedOf : Composer → List ℕ → Composer
 feedOf c line =
     cond (isStopped (c .stage)) c
     (cond (not (eqb (c .left) 0)) c
-    (lineTaken (onLine c (counted (c .line))) (lineOf line)))
+    (lineTaken (onLine c (counted (c .line))) (lineOf Run line)))
 
 -- nothing is written
 abbrev pub quiet : Composer → Wrote

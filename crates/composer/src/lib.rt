@@ -2,26 +2,17 @@
 ghost use mathlib.Core.Path.{_≡_};
 ghost use Prim.Native.Nat.{_≤_};
 ghost use lib.ListN.{replicate};
-ghost use Rattle.charts.specs.Valid.{isSize};
 ghost use Rattle.record.specs.Layout.{blank};
-ghost use Rattle.composer.specs.Composer.{isStopped, stopped, onLine, toPut, counted, nodesTaken, actionTaken, lineTaken, feedOf};
+ghost use Rattle.composer.specs.Composer.{stopped, onLine, toPut, nodesTaken, actionTaken, lineTaken, feedOf};
 ghost use Rattle.composer.specs.Composer.{withBlock, flushOf, heldAfter, putOf, putHeld, usedBy, finishOf, finishHeld, startOf};
 use charts::Action;
 use charts::Decoded;
 use faults::Fault;
 use notation::Line;
-
-const WRONG_SIZE: u8 = 1;
+use notation::Stage;
+use notation::Text;
 
 const BLOCKS: u64 = 4294967296;
-
-const LAST_LINE: u64 = 18446744073709551615;
-
-// Whether the composer goes on, or a fault has stopped it.
-pub enum Stage {
-    Going,
-    Stopped(Fault),
-}
 
 // The composer between two calls: the line last fed, n (0 before the `nodes` line), how many blocks are written, the records of the block
 // under way, and the action under way with how often it is still to be put.
@@ -55,15 +46,6 @@ pub fn start() -> Composer
         records: [0u8; 496],
         action: record::read_action(&[]),
         left: 0,
-    }
-}
-
-pub fn is_stopped(stage: Stage) -> bool
-    ensures { λ r. ⌜ r ≡ isStopped stage ⌝ }
-{
-    match stage {
-        Stage::Going => false,
-        Stage::Stopped(_) => true,
     }
 }
 
@@ -101,12 +83,6 @@ fn with_block(c: Composer, blocks: u64, count: u8, records: [u8; 496], left: u32
     }
 }
 
-fn count_line(line: u64) -> u64
-    ensures { λ r. ⌜ r ≡ counted line ⌝ }
-{
-    if line < LAST_LINE { line + 1 } else { line }
-}
-
 fn on_line(mut c: Composer, line: u64) -> Composer
     ensures { λ r. ⌜ r ≡ onLine c line ⌝ }
 {
@@ -114,23 +90,12 @@ fn on_line(mut c: Composer, line: u64) -> Composer
     c
 }
 
-fn is_size(n: u8) -> bool
-    ensures { λ r. ⌜ r ≡ isSize n ⌝ }
-{
-    if 1 < n {
-        return n < 64;
-    }
-    false
-}
-
 fn take_nodes(mut c: Composer, n: u8) -> Composer
     ensures { λ r. ⌜ r ≡ nodesTaken c n ⌝ }
 {
-    if c.n != 0 {
-        return stop(c, Fault::NodesAgain);
-    }
-    if !is_size(n) {
-        return stop(c, Fault::Refused(WRONG_SIZE));
+    let stage = notation::nodes_stage(c.n, n);
+    if let Stage::Stopped(fault) = stage {
+        return stop(c, fault);
     }
     c.n = n;
     c
@@ -173,6 +138,8 @@ fn take_line(c: Composer, said: Line) -> Composer
         Line::Blank => c,
         Line::Nodes(n) => take_nodes(c, n),
         Line::Acts(a, k) => take_action(c, a, k),
+        Line::Actions(_) => stop(c, Fault::UnknownWord),
+        Line::User(_, _) => stop(c, Fault::UnknownWord),
         Line::Wrong(fault) => stop(c, fault),
     }
 }
@@ -182,14 +149,14 @@ pub fn feed(c: Composer, line: &[u8]) -> Composer
     ensures { λ r. ⌜ r ≡ feedOf c (now (line .entry)) ⌝ }
 {
     let stage = c.stage;
-    if is_stopped(stage) {
+    if notation::is_stopped(stage) {
         return c;
     }
     if c.left != 0 {
         return c;
     }
-    let said = notation::parse_line(line);
-    take_line(on_line(c, count_line(c.line)), said)
+    let said = notation::parse_line(Text::Run, line);
+    take_line(on_line(c, notation::count_line(c.line)), said)
 }
 
 // Writes the block under way, its records being the first `size` bytes.
@@ -225,7 +192,7 @@ pub fn put(c: Composer, out: &mut [u8; 512]) -> Wrote
     ensures { λ _. ⌜ now (out .exit) ≡ putHeld c (now (out .entry)) ⌝ }
 {
     let stage = c.stage;
-    if is_stopped(stage) {
+    if notation::is_stopped(stage) {
         return Wrote {
             composer: c,
             written: false,
@@ -267,7 +234,7 @@ pub fn finish(c: Composer, out: &mut [u8; 512]) -> Wrote
     ensures { λ _. ⌜ now (out .exit) ≡ finishHeld c (now (out .entry)) ⌝ }
 {
     let stage = c.stage;
-    if is_stopped(stage) {
+    if notation::is_stopped(stage) {
         return Wrote {
             composer: c,
             written: false,

@@ -6,4 +6,5 @@ pub mod Texts
 pub mod Fitting
 pub mod Marks
 pub mod Users
+pub mod Readers
 pub mod Told

@@ -20,6 +20,7 @@ use Rattle.notation.specs.Words.{tokenOf, nameOf, digitOf}
 use Rattle.notation.specs.Grammar.{saidBy, namedOf, nodesOf, numberIn, lastOf, lineOf}
 use Rattle.notation.specs.Lines.{spaced}
 use Rattle.transcript.specs.Printed.{addressWord, wordsFor, actionLine}
+use Rattle.notation.specs.Reading.{nodesStage}
 use Rattle.notation.specs.Meaning.{run, linesFrom, linesOf, markSize, meaningFrom, endOn, meaningOf, actionLines, textOf, Accepts, AllAccepted}
 use Rattle.notation.proofs.Spaced.{Plain, Good, good-by, AllGood, said-line, line-spaced}
 use Rattle.notation.proofs.Figures.{decimal-good, token-decimal}
@@ -127,7 +128,7 @@ nodes-back n h =
 
 -- for every n and every list of actions that the writer takes for it: their text means them
 pub text-back : (n : ℕ) (a : Action) (l : List Action) → isSize n ≡ true → AllAccepted n (a ∷ l) → meaningOf (textOf n (a ∷ l)) ≡ run n (a ∷ l)
-unfolding meaningOf markSize textOf nodesLine
+unfolding meaningOf markSize textOf nodesLine nodesStage
 text-back n a l size g =
     let high = ltb-true n 64 (and-right (ltb 1 n) _ size) in
     let low = ltb-true 1 n (and-left (ltb 1 n) _ size) in

@@ -1,12 +1,10 @@
 -- What a whole text means: n and its actions, or its first fault with the line that has it.
 use mathlib.Core.Path.{_≡_}
-use mathlib.Core.Bool.{cond, not, _&&_}
+use mathlib.Core.Bool.{cond, _&&_}
 use mathlib.Core.List.{List, [], _∷_, _++_}
 use Prim.Native.Nat.{ℕ, suc}
 use lib.Dec.{eqb}
 use lib.ListN.{length, drop, getD, replicate}
-use Rattle.charts.specs.Numbers as N
-use Rattle.charts.specs.Valid.{isSize}
 use Rattle.charts.specs.Records.{read}
 use Rattle.charts.specs.declared.Action.{Action}
 use Rattle.charts.specs.declared.Move.{Move}
@@ -15,13 +13,16 @@ use Rattle.charts.specs.declared.Decoded.the-variants as D
 use Rattle.record.specs.Layout.{Fits}
 use Rattle.transcript.specs.Lines.{nodesLine}
 use Rattle.faults.specs.declared.Fault.{Fault}
-use Rattle.faults.specs.declared.Fault.the-variants.{UnknownWord, NodesMissing, NodesAgain, NoAction, Refused}
+use Rattle.faults.specs.declared.Fault.the-variants.{UnknownWord, NodesMissing, NoAction, Refused}
 use Rattle.notation.specs.declared.Text.the-variants.{Run}
 use Rattle.notation.specs.declared.Line.{Line}
 use Rattle.notation.specs.declared.Line.the-variants.{Blank, Nodes, Acts, Actions, Wrong}
 use Rattle.notation.specs.declared.Line.the-variants as L
+use Rattle.notation.specs.declared.Stage.{Stage}
+use Rattle.notation.specs.declared.Stage.the-variants.{Going, Stopped}
 use Rattle.notation.specs.Words.{withWord}
 use Rattle.notation.specs.Grammar.{lineOf}
+use Rattle.notation.specs.Reading.{nodesStage}
 use Rattle.transcript.specs.Printed.{actionLine}
 
 pub data Meaning : Type 0 where
@@ -53,10 +54,15 @@ abbrev pub readOn : ℕ → List Action → Action → ℕ → Decoded → Said
 readOn n l a k (D.Refused j) = off (Refused j)
 readOn n l a k (D.Accepted m) = on n (l ++ replicate k a)
 
--- "`nodes 3` first"; a run has no lines of settings: "The first word is no action and not `nodes`"
+-- "`nodes 3` first"
+abbrev pub nodesOn : ℕ → List Action → Stage → Said
+nodesOn m l Going = on m l
+nodesOn m l (Stopped f) = off f
+
+-- a run has no lines of settings: "The first word is no action and not `nodes`"
 abbrev pub lineOn : ℕ → List Action → Line → Said
 lineOn n l Blank = on n l
-lineOn n l (Nodes m) = cond (not (eqb n 0)) (off NodesAgain) (cond (not (isSize m)) (off (Refused N.wrong-size)) (on m l))
+lineOn n l (Nodes m) = nodesOn m l (nodesStage n m)
 lineOn n l (Acts a k) = cond (eqb n 0) (off NodesMissing) (readOn n l a k (read n a))
 lineOn n l (Actions k) = off UnknownWord
 lineOn n l (L.User i u) = off UnknownWord

@@ -7,6 +7,7 @@ ghost use mathlib.Core.Path.{_≡_};
 ghost use Prim.Native.Nat.{_≤_};
 ghost use lib.ListN.{length};
 ghost use Rattle.notation.specs.Grammar.{lineOf};
+ghost use Rattle.notation.specs.Reading.{isStopped, counted, nodesStage};
 ghost use Rattle.notation.specs.Meaning.{markSize};
 ghost use Rattle.notation.specs.Blame.{blameOf};
 use causes::Mark;
@@ -14,6 +15,10 @@ use charts::Action;
 use charts::User;
 use faults::Cause;
 use faults::Fault;
+
+const WRONG_SIZE: u8 = 1;
+
+const LAST_LINE: u64 = 18446744073709551615;
 
 // What a text is of: a run, or the settings of a load trial.
 pub enum Text {
@@ -29,6 +34,12 @@ pub enum Line {
     Actions(u16),
     User(u8, User),
     Wrong(Fault),
+}
+
+// Whether the reader of a text goes on, or a fault has stopped it.
+pub enum Stage {
+    Going,
+    Stopped(Fault),
 }
 
 // Why a line has a fault, and the part of it that is to blame: its bytes from a place up to another.
@@ -66,6 +77,35 @@ pub fn mark_size(text: &[u8]) -> usize
         return 0;
     }
     3
+}
+
+pub fn is_stopped(stage: Stage) -> bool
+    ensures { λ r. ⌜ r ≡ isStopped stage ⌝ }
+{
+    match stage {
+        Stage::Going => false,
+        Stage::Stopped(_) => true,
+    }
+}
+
+// The number of the line after a line.
+pub fn count_line(line: u64) -> u64
+    ensures { λ r. ⌜ r ≡ counted line ⌝ }
+{
+    if line < LAST_LINE { line + 1 } else { line }
+}
+
+// What a line `nodes M` makes of a text that has n nodes so far, 0 before such a line.
+pub fn nodes_stage(n: u8, m: u8) -> Stage
+    ensures { λ r. ⌜ r ≡ nodesStage n m ⌝ }
+{
+    if n != 0 {
+        return Stage::Stopped(Fault::NodesAgain);
+    }
+    if !runfile::is_size(m) {
+        return Stage::Stopped(Fault::Refused(WRONG_SIZE));
+    }
+    Stage::Going
 }
 
 // What is to blame for the fault of a line of a text. n is the number of nodes.

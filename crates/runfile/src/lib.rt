@@ -48,7 +48,8 @@ fn wide(x: u8) -> u32
     x as u32
 }
 
-fn is_size(n: u8) -> bool
+// Whether a bus may have so many nodes.
+pub fn is_size(n: u8) -> bool
     ensures { λ r. ⌜ r ≡ isSize n ⌝ }
 {
     both(1 < n, n < 64)

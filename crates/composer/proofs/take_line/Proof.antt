@@ -18,11 +18,23 @@ enum-known-said-2 c = search needs
 take-action-requires : tie.Need-take-action-requires
 take-action-requires c κs = search needs
 
-enum-known-said-3 : tie.Need-enum-known-said-3
-enum-known-said-3 c = search needs
+enum-told-2 : tie.Need-enum-told-2
+enum-told-2 c = search needs
 
 stop-requires : tie.Need-stop-requires
 stop-requires c κs = search needs
+
+enum-told-3 : tie.Need-enum-told-3
+enum-told-3 c = search needs
+
+stop-requires-2 : tie.Need-stop-requires-2
+stop-requires-2 c κs = search needs
+
+enum-known-said-3 : tie.Need-enum-known-said-3
+enum-known-said-3 c = search needs
+
+stop-requires-3 : tie.Need-stop-requires-3
+stop-requires-3 c κs = search needs
 
 returns : tie.Need-returns
 unfolding lineTaken
@@ -38,7 +50,15 @@ returns-3 c = simp (c .before .before .said2 .given .1, c .take-action .ensures)
 
 returns-4 : tie.Need-returns-4
 unfolding lineTaken
-returns-4 c = simp (c .before .before .said3 .given .1, c .stop .ensures)
+returns-4 c = simp (c .before .enum-told2 .given .1, c .stop .ensures)
+
+returns-5 : tie.Need-returns-5
+unfolding lineTaken
+returns-5 c = simp (c .before .enum-told3 .given .1, c .stop2 .ensures)
+
+returns-6 : tie.Need-returns-6
+unfolding lineTaken
+returns-6 c = simp (c .before .before .said3 .given .1, c .stop3 .ensures)
 
 pub take-line-spec : {M : Type 1} → statement M
 take-line-spec =
@@ -49,9 +69,15 @@ take-line-spec =
     take-nodes-requires
     enum-known-said-2
     take-action-requires
-    enum-known-said-3
+    enum-told-2
     stop-requires
+    enum-told-3
+    stop-requires-2
+    enum-known-said-3
+    stop-requires-3
     returns
     returns-2
     returns-3
-    returns-4)
+    returns-4
+    returns-5
+    returns-6)

@@ -1,7 +1,7 @@
 use borrow.Author.Tests.{lt-ltb, le-ltb}
 use borrow.Author.Needs.{needs}
-use Rattle.composer.proofs.count_line.Statement.{statement}
-use Rattle.composer.proofs.count_line.Tie as tie
+use Rattle.notation.proofs.count_line.Statement.{statement}
+use Rattle.notation.proofs.count_line.Tie as tie
 
 add-result : tie.Need-add-result
 add-result c = search needs
