@@ -6,7 +6,6 @@ use Prim.Native.Nat.{ℕ, zero, suc, _*_, _≤_}
 use native.Mathlib.Omega.{arith}
 use lib.Dec.{eqb}
 use lib.ListN.{length, replicate, length-append, length-replicate}
-use Rattle.charts.specs.Numbers as N
 use Rattle.charts.specs.Valid.{isSize}
 use Rattle.charts.specs.Records.{read}
 use Rattle.charts.specs.declared.Action.{Action}
@@ -22,6 +21,7 @@ use Rattle.notation.specs.Grammar.{lineOf}
 use Rattle.notation.specs.Reading.{counted, lineShown, nodesStage}
 use Rattle.notation.specs.Meaning.{Said, on, off, readOn, nodesOn, lineOn, Accepts}
 use Rattle.notation.proofs.Fitting.{Fitting, line-fitting}
+use Rattle.notation.proofs.Readers.{sized-nodes}
 use Rattle.notation.specs.declared.Stage.{Stage}
 use Rattle.notation.specs.declared.Stage.the-variants.{Going, Stopped}
 use Rattle.composer.specs.declared.Composer.{Composer}
@@ -41,17 +41,6 @@ pub record After (i n : ℕ) (l : List Action) (bytes : List ℕ) (c : Composer)
 abbrev pub Goes : ℕ → List ℕ → Composer → Said → Type 0
 Goes i bytes c (on n l) = length l ≤ 31 * bound 4 → After i n l (bytes ++ putBytes (c .left) c) (settled c)
 Goes i bytes c (off f) = (c .stage ≡ Stopped f) × (c .line ≡ lineShown i)
-
--- a `nodes` line with which a text goes on is its first, and 1 does not refuse it
-sized-nodes : (n m : ℕ) → nodesStage n m ≡ Going → (eqb n 0 ≡ true) × (isSize m ≡ true)
-unfolding nodesStage
-sized-nodes n m e = go (eqb n 0) (isSize m) refl refl e
-  where
-    go : (b s : Bool) → eqb n 0 ≡ b → isSize m ≡ s → cond (not b) (Stopped F.NodesAgain) (cond (not s) (Stopped (F.Refused N.wrong-size)) Going) ≡ Going
-        → (eqb n 0 ≡ true) × (isSize m ≡ true)
-    go true true p q h = (p, q)
-    go true false p q h = absurd (let z : _≡_ {A = ℕ} 0 1 = cc in omega arith)
-    go false s p q h = absurd (let z : _≡_ {A = ℕ} 0 1 = cc in omega arith)
 
 none-put : {i n : ℕ} {l : List Action} {bytes : List ℕ} {c : Composer} (k : ℕ) → k ≡ 0 → After i n l bytes c → After i n l (bytes ++ putBytes k c) (putTimes k c)
 none-put {bytes = bytes} zero e a = rw (append-nil bytes) a

@@ -1,0 +1,83 @@
+use Rattle.settings.specs.Settings.{lineTaken}
+use borrow.Author.Needs.{needs}
+use Rattle.settings.proofs.take_line.Statement.{statement}
+use Rattle.settings.proofs.take_line.Tie as tie
+
+enum-told : tie.Need-enum-told
+enum-told c = search needs
+
+enum-known-said : tie.Need-enum-known-said
+enum-known-said c = search needs
+
+take-nodes-requires : tie.Need-take-nodes-requires
+take-nodes-requires c κs = search needs
+
+enum-told-2 : tie.Need-enum-told-2
+enum-told-2 c = search needs
+
+stop-requires : tie.Need-stop-requires
+stop-requires c κs = search needs
+
+enum-known-said-2 : tie.Need-enum-known-said-2
+enum-known-said-2 c = search needs
+
+take-actions-requires : tie.Need-take-actions-requires
+take-actions-requires c κs = search needs
+
+enum-known-said-3 : tie.Need-enum-known-said-3
+enum-known-said-3 c = search needs
+
+take-user-requires : tie.Need-take-user-requires
+take-user-requires c κs = search needs
+
+enum-known-said-4 : tie.Need-enum-known-said-4
+enum-known-said-4 c = search needs
+
+stop-requires-2 : tie.Need-stop-requires-2
+stop-requires-2 c κs = search needs
+
+returns : tie.Need-returns
+unfolding lineTaken
+returns c = simp (c .enum-told .given .1)
+
+returns-2 : tie.Need-returns-2
+unfolding lineTaken
+returns-2 c = simp (c .before .before .said .given .1, c .take-nodes .ensures)
+
+returns-3 : tie.Need-returns-3
+unfolding lineTaken
+returns-3 c = simp (c .before .enum-told2 .given .1, c .stop .ensures)
+
+returns-4 : tie.Need-returns-4
+unfolding lineTaken
+returns-4 c = simp (c .before .before .said2 .given .1, c .take-actions .ensures)
+
+returns-5 : tie.Need-returns-5
+unfolding lineTaken
+returns-5 c = simp (c .before .before .said3 .given .1, c .take-user .ensures)
+
+returns-6 : tie.Need-returns-6
+unfolding lineTaken
+returns-6 c = simp (c .before .before .said4 .given .1, c .stop2 .ensures)
+
+pub take-line-spec : {M : Type 1} → statement M
+take-line-spec =
+    tie.close
+    (tie.spec
+    enum-told
+    enum-known-said
+    take-nodes-requires
+    enum-told-2
+    stop-requires
+    enum-known-said-2
+    take-actions-requires
+    enum-known-said-3
+    take-user-requires
+    enum-known-said-4
+    stop-requires-2
+    returns
+    returns-2
+    returns-3
+    returns-4
+    returns-5
+    returns-6)
