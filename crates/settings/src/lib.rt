@@ -91,10 +91,12 @@ fn user_stage(n: u8, i: u8, address: u8) -> Stage
     if n == 0 {
         return Stage::Stopped(Fault::NodesMissing);
     }
-    if n <= i {
+    let there = i < n;
+    let sent = record::is_address(n, address);
+    if !there {
         return Stage::Stopped(Fault::Refused(WRONG_NODE));
     }
-    if !record::is_address(n, address) {
+    if !sent {
         return Stage::Stopped(Fault::Refused(WRONG_ADDRESS));
     }
     Stage::Going

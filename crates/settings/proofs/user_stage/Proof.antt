@@ -1,5 +1,5 @@
 use Rattle.settings.specs.Settings.{userStage}
-use borrow.Author.Tests.{eq-eqb, ne-eqb, lt-ltb, le-ltb}
+use borrow.Author.Tests.{eq-eqb, ne-eqb}
 use borrow.Author.Needs.{needs}
 use Rattle.settings.proofs.user_stage.Statement.{statement}
 use Rattle.settings.proofs.user_stage.Tie as tie
@@ -8,20 +8,20 @@ returns : tie.Need-returns
 unfolding userStage
 returns c = simp (eq-eqb _ _ (c .if1 .taken))
 
-returns-2 : tie.Need-returns-2
-unfolding userStage
-returns-2 c = simp (ne-eqb _ _ (c .before .if1 .left), le-ltb _ _ (c .if2 .taken))
-
 is-address-requires : tie.Need-is-address-requires
 is-address-requires c κs = search needs
 
+returns-2 : tie.Need-returns-2
+unfolding userStage
+returns-2 c = simp (ne-eqb _ _ (c .before .before .if1 .left), c .if2 .taken)
+
 returns-3 : tie.Need-returns-3
 unfolding userStage
-returns-3 c = simp (ne-eqb _ _ (c .before .before .before .if1 .left), lt-ltb _ _ (c .before .before .if2 .left), ← c .before .is-address .ensures, c .if3 .taken)
+returns-3 c = simp (ne-eqb _ _ (c .before .before .before .if1 .left), c .before .if2 .left, ← c .before .before .is-address .ensures, c .if3 .taken)
 
 returns-4 : tie.Need-returns-4
 unfolding userStage
-returns-4 c = simp (ne-eqb _ _ (c .before .before .before .if1 .left), lt-ltb _ _ (c .before .before .if2 .left), ← c .before .is-address .ensures, c .if3 .left)
+returns-4 c = simp (ne-eqb _ _ (c .before .before .before .if1 .left), c .before .if2 .left, ← c .before .before .is-address .ensures, c .if3 .left)
 
 pub user-stage-spec : {M : Type 1} → statement M
-user-stage-spec = tie.close (tie.spec returns returns-2 is-address-requires returns-3 returns-4)
+user-stage-spec = tie.close (tie.spec returns is-address-requires returns-2 returns-3 returns-4)
