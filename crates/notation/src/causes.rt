@@ -14,8 +14,6 @@ use crate::words::Token;
 use faults::Cause;
 use faults::Fault;
 
-const WRONG_SIZE: u8 = 1;
-
 const WRONG_NODE: u8 = 4;
 
 const WRONG_ADDRESS: u8 = 5;
@@ -201,7 +199,7 @@ fn refusal(n: u8, k: u8, said: Line) -> Cause
     match said {
         Line::Blank => Cause::Plain,
         Line::Nodes(_) => {
-            if k == WRONG_SIZE {
+            if k == crate::WRONG_SIZE {
                 return Cause::Size;
             }
             Cause::Plain

@@ -16,7 +16,7 @@ use charts::User;
 use faults::Cause;
 use faults::Fault;
 
-const WRONG_SIZE: u8 = 1;
+pub(crate) const WRONG_SIZE: u8 = 1;
 
 const LAST_LINE: u64 = 18446744073709551615;
 
