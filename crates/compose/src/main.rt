@@ -4,12 +4,10 @@ ghost use mathlib.Core.Path.{_≡_};
 ghost use Prim.Native.Nat.{_≤_};
 ghost use lib.ListN.{length};
 use composer::Composer;
-use faults::Fault;
 use libc::STDERR_FILENO;
 use notation::Stage;
 use notation::Text;
 use stream::Held;
-use stream::Place;
 
 // What the arguments ask for: the run file, the spans of the lines, or what there is not.
 enum Asked {
@@ -115,49 +113,7 @@ fn end_line(r: Reading, line: &[u8], spans: bool, out: &mut [u8]) -> Reading
     put_action(d, spans, out, held, len)
 }
 
-// Takes the lines that end in a part of the text, from a place on. What follows the last of them stands in `line`.
-fn take_lines(
-    r: Reading,
-    part: &[u8],
-    from: usize,
-    line: &mut [u8],
-    spans: bool,
-    out: &mut [u8],
-) -> Reading
-    requires { ⌜ r .len ≤ length (now line) ⌝ }
-    ensures { λ s. ⌜ s .len ≤ length (now (line .exit)) ⌝ }
-{
-    let mut s = r;
-    let mut place = Place {
-        at: from,
-        end: part.len(),
-    };
-    while place.at < part.len() {
-        let t = stream::take_line(part, place, line, s.len);
-        s.len = t.len;
-        if !t.ended {
-            return s;
-        }
-        let next = t.place;
-        place = next;
-        s = end_line(s, line, spans, out);
-        if s.over {
-            return s;
-        }
-        s.len = 0;
-    }
-    s
-}
-
-// A byte order mark stands at the start of the first part only.
-fn text_start(part: &[u8], first: bool) -> usize {
-    if first {
-        return notation::mark_size(part);
-    }
-    0
-}
-
-// Reads part after part, and takes their lines. A proved loop has to end, so it counts its turns down from a number that no text uses up.
+// Reads the text, and takes its lines up to a fault, a failed write or a failed read.
 fn read_text(buf: &mut [u8], line: &mut [u8], spans: bool, out: &mut [u8]) -> Reading
     ensures { λ r. ⌜ r .len ≤ length (now (line .exit)) ⌝ }
 {
@@ -166,78 +122,53 @@ fn read_text(buf: &mut [u8], line: &mut [u8], spans: bool, out: &mut [u8]) -> Re
         whole: true,
     };
     let mut r = after(composer::start(), nothing, 0);
-    let mut first = true;
+    let mut lines = texts::open(buf);
     let mut turns = u64::MAX;
     while 0 < turns {
-        let filled = stream::fill(buf);
-        if !filled.whole {
+        lines = texts::next_line(lines, buf, line);
+        r.len = lines.len;
+        if !lines.whole {
             os::fail(b"compose: standard input");
             r.over = true;
             return r;
         }
-        let count = filled.count;
-        let from = text_start(&buf[..count], first);
-        r = take_lines(r, &buf[..count], from, line, spans, out);
-        if r.over || count < buf.len() {
+        if !lines.found {
             return r;
         }
-        first = false;
+        r = end_line(r, line, spans, out);
+        if r.over {
+            return r;
+        }
         turns -= 1;
     }
     r
 }
 
-// A text may end without a newline.
-fn last_line(r: Reading, line: &[u8], spans: bool, out: &mut [u8]) -> Reading
-    requires { ⌜ r .len ≤ length (now line) ⌝ }
-    ensures { λ s. ⌜ s .len ≡ r .len ⌝ }
-{
-    if r.len == 0 {
-        return r;
-    }
-    end_line(r, line, spans, out)
-}
-
-// The text's end: its last line, and the last block.
-fn finish(r: Reading, line: &[u8], spans: bool, out: &mut [u8]) -> Reading
-    requires { ⌜ r .len ≤ length (now line) ⌝ }
+// The text's end: the last block.
+fn finish(r: Reading, spans: bool, out: &mut [u8]) -> Reading
     ensures { λ s. ⌜ s .len ≡ r .len ⌝ }
 {
     if r.over {
         return r;
     }
-    let s = last_line(r, line, spans, out);
-    let c = s.composer;
+    let c = r.composer;
     let mut block = [0u8; 512];
     let w = composer::finish(c, &mut block);
     let d = w.composer;
-    after(d, hold(out, s.held, &block, w.written && !spans), s.len)
-}
-
-// A fault with its cause, on standard error.
-fn report_fault(n: u8, number: u64, fault: Fault, line: &[u8], text: &mut [u8])
-    requires { ⌜ length (now text) ≡ 512 ⌝ }
-{
-    let b = notation::blame(Text::Run, n, line, fault);
-    let cause = b.cause;
-    let from = b.from;
-    let to = b.to;
-    let end = faults::put_fault(text, 0, number, fault, cause, &line[from..to]);
-    io::write_all(STDERR_FILENO, &text[..end]);
+    after(d, hold(out, r.held, &block, w.written && !spans), r.len)
 }
 
 fn report(c: Composer, line: &[u8]) {
     let stage = c.stage;
     if let Stage::Stopped(fault) = stage {
-        let mut text = [0u8; 512];
-        report_fault(c.n, c.line, fault, line, &mut text);
+        texts::report(Text::Run, c.n, c.line, fault, line);
     }
 }
 
 // Composes the text, writes what the output buffer then holds, and says what is wrong.
 fn compose(buf: &mut [u8], line: &mut [u8], spans: bool, out: &mut [u8]) {
     let r = read_text(buf, line, spans, out);
-    let s = finish(r, line, spans, out);
+    let s = finish(r, spans, out);
     if !stream::flush(out, s.held) {
         os::fail(b"compose: standard output");
         return;

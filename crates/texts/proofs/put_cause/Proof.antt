@@ -1,8 +1,8 @@
 use mathlib.Core.Path.{sym}
 use lib.Seq.{length-take-le}
 use borrow.Author.Needs.{needs}
-use Rattle.compose.proofs.report_fault.Statement.{statement}
-use Rattle.compose.proofs.report_fault.Tie as tie
+use Rattle.texts.proofs.put_cause.Statement.{statement}
+use Rattle.texts.proofs.put_cause.Tie as tie
 
 blame-requires : tie.Need-blame-requires
 blame-requires c κs = search needs
@@ -34,8 +34,8 @@ same-length c = search needs
 returns : tie.Need-returns
 returns c = search needs
 
-pub report-fault-spec : {M : Type 1} → statement M
-report-fault-spec =
+pub put-cause-spec : {M : Type 1} → statement M
+put-cause-spec =
     tie.close
     (tie.spec
     blame-requires
