@@ -1,2 +1,4 @@
 pub mod Users
 pub mod Whole
+pub mod Taken
+pub mod Examples
