@@ -7,7 +7,6 @@ use Rattle.faults.specs.declared.Fault.{Fault}
 use Rattle.faults.specs.declared.Fault.the-variants as F
 use Rattle.transcript.specs.Text.{ascii, decimal}
 use Rattle.faults.specs.Faults.{faultWords, shownByte, shown, hint, fieldOf, settingWords, fieldWords, causeWords, faultLine}
-use Rattle.notation.specs.declared.Text.{Text}
 use Rattle.notation.specs.declared.Text.the-variants.{Run, Settings}
 use Rattle.notation.specs.declared.Blamed.{Blamed}
 use Rattle.notation.specs.Words.{nameOf, digitOf, digitsOf, tokenOf, tokensOf}

@@ -23,7 +23,7 @@ use Rattle.notation.specs.Reading.{counted, lineShown, nodesStage}
 use Rattle.notation.specs.Meaning.{linesOf, unmarked}
 use Rattle.notation.proofs.Readers.{shown-small, sized-nodes}
 use Rattle.settings.specs.declared.Settings.{Settings}
-use Rattle.settings.specs.Settings.{userIn, withUser, started, stopped, onLine, forNodes, forActions, forUsers, goesOn, nodesTaken, actionsStage, actionsTaken, userStage, userTaken, lineTaken, feedOf, endStage, finishOf}
+use Rattle.settings.specs.Settings.{userIn, withUser, started, onLine, forNodes, forActions, forUsers, goesOn, nodesTaken, actionsStage, actionsTaken, userStage, userTaken, lineTaken, feedOf, endStage, finishOf}
 use Rattle.settings.specs.Meant.{Meaning, trial, wrong, Said, on, off, saidIf, lineOn, endOn, afterLine, settingsFrom, unsaid, settingsOf, readFrom, readBy}
 use Rattle.settings.proofs.Users.{Places, with-places, no-places, with-user, no-user}
 

@@ -61,6 +61,7 @@ abbrev pub goesOn : Settings → Settings → Stage → Settings
 goesOn s t Going = t
 goesOn s t (Stopped f) = stopped s f
 
+-- "the first line that is not blank is `nodes`"; "`a second nodes line`"
 unfoldable pub nodesTaken : Settings → ℕ → Settings
 nodesTaken s n = goesOn s (forNodes s n) (nodesStage (s .n) n)
 

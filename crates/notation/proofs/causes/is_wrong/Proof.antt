@@ -1,5 +1,3 @@
-use mathlib.Core.Logic.{⊎-elim}
-use borrow.Author.Tests.{eq-eqb, ne-eqb, lt-ltb, le-ltb, le-leb, lt-leb}
 use Rattle.notation.specs.Blame.{isWrong}
 use borrow.Author.Needs.{needs}
 use Rattle.notation.proofs.causes.is_wrong.Statement.{statement}

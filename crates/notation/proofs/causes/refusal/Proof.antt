@@ -1,5 +1,4 @@
-use mathlib.Core.Logic.{⊎-elim}
-use borrow.Author.Tests.{eq-eqb, ne-eqb, lt-ltb, le-ltb, le-leb, lt-leb}
+use borrow.Author.Tests.{eq-eqb, ne-eqb}
 use Rattle.notation.specs.Blame.{refusalOf}
 use borrow.Author.Needs.{needs}
 use Rattle.notation.proofs.causes.refusal.Statement.{statement}
