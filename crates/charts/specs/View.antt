@@ -11,6 +11,8 @@ use Rattle.charts.specs.declared.Cell.{Cell}
 use Rattle.charts.specs.declared.Bus.{Bus}
 use Rattle.charts.specs.declared.Played.{Played}
 use Rattle.charts.specs.declared.Begun.{Begun}
+use Rattle.charts.specs.declared.User.{User}
+use Rattle.charts.specs.declared.Users.{Users}
 use Rattle.charts.specs.declared.Report.the-variants.{Silent}
 use Rattle.charts.specs.State.{State, nothing}
 use Rattle.charts.specs.Step.{Result}
@@ -48,3 +50,7 @@ seen r = record { number = r .number; report = r .report; state = view (r .bus) 
 
 abbrev pub seenBegun : Begun → Result
 seenBegun r = record { number = r .number; report = Silent; state = view (r .bus) }
+
+-- the users of all nodes, of whom the code has an array for each setting
+unfoldable pub usersOf : Users → ℕ → User
+usersOf u k = record { spell = getD (u .spell) k 0; address = getD (u .address) k 0; fillers = getD (u .fillers) k 0; hold = mark (u .hold) k; period = getD (u .period) k 0 }

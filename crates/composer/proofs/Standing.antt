@@ -6,15 +6,16 @@ use Prim.Native.Nat.{ℕ, zero, suc, _+_, _*_, _<_, _≤_}
 use native.Mathlib.Omega.{arith}
 use borrow.Author.Tests.{ltb-true, ltb-false}
 use lib.Dec.{ltb}
-use lib.ListN.{length, take, drop, replicate, length-append, length-drop}
-use lib.Seq.{take-all, take-append-le, drop-append-le}
+use lib.ListN.{length, replicate, length-append}
+use lib.Seq.{take-all}
 use Rattle.charts.specs.Valid.{isSize}
 use Rattle.charts.specs.declared.Action.{Action}
 use Rattle.record.specs.Bytes.{bound}
 use Rattle.record.specs.Layout.{recordsOf}
 use Rattle.runfile.specs.Write.{firstRefusal, writeNumber, blockOf}
 use Rattle.runfile.specs.File.{blocksFor, fileFrom, fileOf, AllFit, Taken}
-use Rattle.runfile.proofs.Files.{one-file}
+use Rattle.runfile.proofs.Files as Files
+use Rattle.runfile.proofs.Splits.{file-split}
 use Rattle.notation.specs.Meaning.{Accepts, AllAccepted}
 use Rattle.composer.specs.declared.Composer.{Composer}
 use Rattle.composer.specs.Composer.{putOf, putHeld}
@@ -43,22 +44,7 @@ module _ (n : ℕ) where
   takes l size g some few = record { nodes = size; some = some; numbered = few; fits = all-fit l g; accepted = none-refused l g }
 
   pub block-taken : (l : List Action) → isSize n ≡ true → AllAccepted n l → 1 ≤ length l → length l ≤ 31 → writeNumber 512 n (recordsOf l) ≡ 0
-  block-taken l size g some few = rw (take-all 31 l few) at (one-file n l (takes l size g some (omega arith)) .written 0 some)
-
--- full blocks, and the blocks after them
-file-split : (k j i n : ℕ) (l m : List Action) → length l ≡ 31 * k → fileFrom (k + j) i n (l ++ m) ≡ fileFrom k i n l ++ fileFrom j (i + k) n m
-file-split zero j i n [] m h =
-    let e : 0 + j ≡ j = omega arith in
-    let f : i + 0 ≡ i = omega arith in
-    rw (e, f)
-file-split zero j i n (a ∷ l) m h = absurd (omega arith)
-file-split (suc k) j i n l m h =
-    let long : 31 ≤ length l = omega arith in
-    let e : suc k + j ≡ suc (k + j) = omega arith in
-    let f : i + suc k ≡ suc i + k = omega arith in
-    let size : length (drop 31 l) ≡ 31 * k = rw length-drop (omega arith) in
-    rw (e, f, take-append-le 31 l m long, drop-append-le 31 l m long, file-split k j (suc i) n (drop 31 l) m size)
-    (sym (append-assoc (blockOf i n (take 31 l)) (fileFrom k (suc i) n (drop 31 l)) (fileFrom j (suc i + k) n m)))
+  block-taken l size g some few = Files.block-taken n l size some few (all-fit l g) (none-refused l g)
 
 -- a composer that was given the actions of l, accepted for n nodes: those of the full blocks, whose bytes are written, and those under way
 pub record Stands (n : ℕ) (l : List Action) (bytes : List ℕ) (c : Composer) : Type 0 where

@@ -155,8 +155,8 @@ module _ (n : ℕ) where
       go (D.Refused k) r f e = absurd (never-zero n a (rw e at r))
       go (D.Accepted x) r f e = f e
 
--- the writer takes each block of a list that it takes
-block-taken : (n : ℕ) (l : List Action) → isSize n ≡ true → 1 ≤ length l → length l ≤ 31 → AllFit l → firstRefusal n l ≡ 0 → writeNumber 512 n (recordsOf l) ≡ 0
+-- the writer takes a block of actions that it takes one by one
+pub block-taken : (n : ℕ) (l : List Action) → isSize n ≡ true → 1 ≤ length l → length l ≤ 31 → AllFit l → firstRefusal n l ≡ 0 → writeNumber 512 n (recordsOf l) ≡ 0
 unfolding writeNumber
 block-taken n l size p q all h =
     let c : length (recordsOf l) / 16 ≡ length l = omega (arith, records-length l) in

@@ -7,6 +7,7 @@ pub mod Written
 pub mod Accepted
 pub mod Lists
 pub mod Files
+pub mod Splits
 pub mod Cases
 pub mod Pieces
 pub mod Stages

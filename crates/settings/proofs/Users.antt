@@ -10,7 +10,8 @@ use Rattle.charts.specs.State.{upd}
 use Rattle.charts.specs.declared.User.{User}
 use Rattle.charts.specs.declared.Users.{Users}
 use Rattle.charts.proofs.Views.{getD-set}
-use Rattle.settings.specs.Settings.{userIn, withUser, noUsers}
+use Rattle.charts.specs.View.{usersOf}
+use Rattle.settings.specs.Settings.{withUser, noUsers}
 use Rattle.settings.specs.Meant.{unsaid}
 
 -- arrays of 63 places, as all of the code are
@@ -56,7 +57,8 @@ within : {A : Type 0} (l : List A) (i : ℕ) → length l ≡ 63 → i < 63 → 
 within l i e h = omega arith
 
 -- a user stored at i is the user of i, and the others stay
-pub with-user : (us : Users) (i : ℕ) (u : User) → Places us → i < 63 → (j : ℕ) → userIn (withUser us i u) j ≡ upd (userIn us) i u j
+pub with-user : (us : Users) (i : ℕ) (u : User) → Places us → i < 63 → (j : ℕ) → usersOf (withUser us i u) j ≡ upd (usersOf us) i u j
+unfolding usersOf
 with-user us i u p h j =
     rw (
       getD-set (us .spell) i (u .spell) 0 (within (us .spell) i (p .spell) h) j,
@@ -69,7 +71,7 @@ with-user us i u p h j =
   where
     go : (b : Bool)
         → record { spell = cond b (u .spell) (getD (us .spell) j 0); address = cond b (u .address) (getD (us .address) j 0); fillers = cond b (u .fillers) (getD (us .fillers) j 0); hold = cond b (u .hold) (getD (us .hold) j false); period = cond b (u .period) (getD (us .period) j 0) }
-        ≡ cond b u (userIn us j)
+        ≡ cond b u (usersOf us j)
     go true = refl
     go false = refl
 
@@ -79,5 +81,6 @@ none-there zero i a = refl
 none-there (suc k) zero a = refl
 none-there (suc k) (suc i) a = none-there k i a
 
-pub no-user : (j : ℕ) → userIn noUsers j ≡ unsaid
+pub no-user : (j : ℕ) → usersOf noUsers j ≡ unsaid
+unfolding usersOf
 no-user j = rw (none-there {A = ℕ} 63 j 0, none-there 63 j false)

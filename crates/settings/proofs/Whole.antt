@@ -23,7 +23,8 @@ use Rattle.notation.specs.Reading.{counted, lineShown, nodesStage}
 use Rattle.notation.specs.Meaning.{linesOf, unmarked}
 use Rattle.notation.proofs.Readers.{shown-small, sized-nodes}
 use Rattle.settings.specs.declared.Settings.{Settings}
-use Rattle.settings.specs.Settings.{userIn, withUser, started, onLine, forNodes, forActions, forUsers, goesOn, nodesTaken, actionsStage, actionsTaken, userStage, userTaken, lineTaken, feedOf, endStage, finishOf}
+use Rattle.charts.specs.View.{usersOf}
+use Rattle.settings.specs.Settings.{withUser, started, onLine, forNodes, forActions, forUsers, goesOn, nodesTaken, actionsStage, actionsTaken, userStage, userTaken, lineTaken, feedOf, endStage, finishOf}
 use Rattle.settings.specs.Meant.{Meaning, trial, wrong, Said, on, off, saidIf, lineOn, endOn, afterLine, settingsFrom, unsaid, settingsOf, readFrom, readBy}
 use Rattle.settings.proofs.Users.{Places, with-places, no-places, with-user, no-user}
 
@@ -35,7 +36,7 @@ record After (i n k : ℕ) (us : ℕ → User) (s : Settings) : Type 0 where
   few : n ≤ 63
   actions : s .actions ≡ k
   places : Places (s .users)
-  users : (j : ℕ) → userIn (s .users) j ≡ us j
+  users : (j : ℕ) → usersOf (s .users) j ≡ us j
 
 -- settings after a line that the meaning takes, or that has a fault
 abbrev Goes : ℕ → Settings → Said → Type 0
@@ -44,7 +45,7 @@ Goes i s (off f) = (s .stage ≡ Stopped f) × (s .line ≡ lineShown i)
 
 -- the settings at the end of a text with that meaning
 abbrev pub Reads : Settings → Meaning → Type 0
-Reads s (trial n k us) = (s .stage ≡ Going) × (s .n ≡ n) × (s .actions ≡ k) × (userIn (s .users) ≡ us)
+Reads s (trial n k us) = (s .stage ≡ Going) × (s .n ≡ n) × (s .actions ≡ k) × (usersOf (s .users) ≡ us)
 Reads s (wrong i f) = (s .stage ≡ Stopped f) × (s .line ≡ lineShown i)
 
 -- a user's line that goes on is one of a node below n
@@ -162,7 +163,7 @@ whole text = all-read (linesOf (unmarked text)) 0 0 0 (λ i. unsaid) started beg
 
 -- a text that means n, k and us is read as these, without a fault
 pub sets : (text : List ℕ) (n k : ℕ) (us : ℕ → User) → settingsOf text ≡ trial n k us
-    → (readBy text .stage ≡ Going) × (readBy text .n ≡ n) × (readBy text .actions ≡ k) × (userIn (readBy text .users) ≡ us)
+    → (readBy text .stage ≡ Going) × (readBy text .n ≡ n) × (readBy text .actions ≡ k) × (usersOf (readBy text .users) ≡ us)
 sets text n k us h = rw h at (whole text)
 
 -- a text that is wrong leaves the settings stopped with that fault on that line

@@ -3,7 +3,7 @@ use mathlib.Core.Bool.{false, cond, not}
 use mathlib.Core.List.{List}
 use Prim.Native.Nat.{ℕ}
 use lib.Dec.{eqb, ltb}
-use lib.ListN.{getD, set, replicate}
+use lib.ListN.{set, replicate}
 use Rattle.charts.specs.Numbers as N
 use Rattle.charts.specs.Records.{isAddress}
 use Rattle.charts.specs.declared.User.{User}
@@ -18,10 +18,6 @@ use Rattle.notation.specs.declared.Stage.the-variants.{Going, Stopped}
 use Rattle.notation.specs.Grammar.{lineOf}
 use Rattle.notation.specs.Reading.{isStopped, counted, nodesStage}
 use Rattle.settings.specs.declared.Settings.{Settings}
-
--- the user of node i in the arrays; "What is not said is 0, and release"
-abbrev pub userIn : Users → ℕ → User
-userIn us i = record { spell = getD (us .spell) i 0; address = getD (us .address) i 0; fillers = getD (us .fillers) i 0; hold = getD (us .hold) i false; period = getD (us .period) i 0 }
 
 -- "Of two lines about the same user […] the later one counts, whole."
 abbrev pub withUser : Users → ℕ → User → Users

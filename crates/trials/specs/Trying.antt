@@ -7,18 +7,13 @@ use lib.Seq.{sets}
 use Rattle.charts.specs.declared.Action.{Action}
 use Rattle.charts.specs.declared.Tally.{Tally}
 use Rattle.charts.specs.declared.User.{User}
-use Rattle.charts.specs.declared.Users.{Users}
 use Rattle.charts.specs.Numbers as N
 use Rattle.charts.specs.Trials.{chosen, trial, trialNumber}
 use Rattle.runfile.specs.File.{blocksFor, fileOf}
-use Rattle.turns.specs.Turns.{userOf, tallyAfter, Stands}
+use Rattle.turns.specs.Turns.{tallyAfter, Stands}
 use Rattle.trials.specs.declared.Answer.{Answer}
 use Rattle.trials.specs.declared.Tried.{Tried}
 use Rattle.trials.specs.declared.block.Trial.{Trial}
-
--- the users of all nodes
-unfoldable pub usersOf : Users → ℕ → User
-usersOf u = userOf (u .spell) (u .address) (u .fillers) (u .hold) (u .period)
 
 -- the code's trial after k actions
 abbrev pub StandsAt : (ℕ → User) → ℕ → Trial → Type 0

@@ -3,8 +3,9 @@ ghost use mathlib.Core.Path.{_≡_};
 ghost use Prim.Native.Nat.{_+_, _*_, _≤_};
 ghost use lib.ListN.{take};
 ghost use Rattle.record.specs.Layout.{recordsOf};
+ghost use Rattle.charts.specs.View.{usersOf};
 ghost use Rattle.turns.specs.Turns.{Allowed};
-ghost use Rattle.trials.specs.Trying.{StandsAt, part, usersOf};
+ghost use Rattle.trials.specs.Trying.{StandsAt, part};
 use charts::Bus;
 use charts::Tally;
 use charts::Users;
@@ -33,6 +34,7 @@ pub(crate) fn make_actions(t: Trial, users: Users, done: u32, count: usize) -> M
     requires { ⌜ (count ≤ 31) × (done + count ≤ 65535) ⌝ }
     ensures { λ r. ⌜ StandsAt (usersOf users) (done + count) (r .trial) ⌝ }
     ensures { λ r. ⌜ take (16 * count) (r .records) ≡ recordsOf (part (usersOf users) (t .bus .n) done count) ⌝ }
+    ensures { λ r. ⌜ r .trial .bus .n ≡ t .bus .n ⌝ }
 {
     let table = link::table::table();
     let b = t.bus;

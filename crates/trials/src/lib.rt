@@ -3,15 +3,17 @@ mod block;
 
 ghost use mathlib.Core.Path.{_≡_};
 ghost use mathlib.Core.Bool.{true, cond};
-ghost use Prim.Native.Nat.{_≤_};
+ghost use Prim.Native.Nat.{_+_, _≤_};
 ghost use lib.Dec.{ltb};
+ghost use lib.ListN.{length};
 ghost use lib.Seq.{sets};
 ghost use Rattle.charts.specs.State.{some};
 ghost use Rattle.charts.specs.Valid.{isSize};
 ghost use Rattle.charts.specs.Trials.{begins, trial, strayAddress, trialNumber, noTally};
 ghost use Rattle.runfile.specs.File.{fileOf};
+ghost use Rattle.charts.specs.View.{usersOf};
 ghost use Rattle.turns.specs.Turns.{loadIn, Allowed};
-ghost use Rattle.trials.specs.Trying.{usersOf, tried, triedOf, answered, fileAfter};
+ghost use Rattle.trials.specs.Trying.{tried, triedOf, answered, fileAfter};
 use block::Trial;
 use charts::Tally;
 use charts::Users;
@@ -35,15 +37,6 @@ pub struct Tried {
     pub tally: Tally,
 }
 
-fn is_size(n: u8) -> bool
-    ensures { λ r. ⌜ r ≡ isSize n ⌝ }
-{
-    if 1 < n {
-        return n < 64;
-    }
-    false
-}
-
 // Whether the address of a node below n is neither below n nor 63.
 fn has_stray_address(users: Users, n: u8) -> bool
     requires { ⌜ n ≤ 63 ⌝ }
@@ -64,7 +57,7 @@ fn has_stray_address(users: Users, n: u8) -> bool
 fn number_of(users: Users, n: u8, actions: u16) -> u8
     ensures { λ r. ⌜ r ≡ trialNumber (usersOf users) n actions ⌝ }
 {
-    if !is_size(n) {
+    if !runfile::is_size(n) {
         return WRONG_SIZE;
     }
     if has_stray_address(users, n) {
@@ -115,6 +108,18 @@ fn count_of(left: u32) -> u32
     if left < 31 { left } else { 31 }
 }
 
+// Stores a block at its place in the file.
+fn store(file: &mut [u8; 1082880], at: usize, block: &[u8])
+    requires { ⌜ at + length (now block) ≤ 1082880 ⌝ }
+    ensures { λ _. ⌜ now (file .exit) ≡ sets (now (file .entry)) at (now (block .entry)) ⌝ }
+{
+    let mut i: usize = 0;
+    while i < block.len() {
+        file[at + i] = block[i];
+        i += 1;
+    }
+}
+
 // Makes the actions of a trial that is not refused, block by block, and writes their run file.
 fn carry_through(n: u8, users: Users, actions: u32, file: &mut [u8; 1082880]) -> Tried
     requires { ⌜ Allowed (usersOf users) n ⌝ }
@@ -131,15 +136,17 @@ fn carry_through(n: u8, users: Users, actions: u32, file: &mut [u8; 1082880]) ->
         t = made.trial;
         let records = made.records;
         let size = 16 * (count as usize);
-        let at = 512 * (number as usize);
-        runfile::write_block(&mut file[at..at + 512], number, n, &records[..size]);
+        let mut block = [0u8; 512];
+        runfile::write_block(&mut block, number, n, &records[..size]);
+        store(file, 512 * (number as usize), &block);
         number += 1;
         done += count;
     }
+    let tally = t.tally;
     Tried {
         number: 0,
         size: 512 * (number as usize),
-        tally: t.tally,
+        tally: tally,
     }
 }
 

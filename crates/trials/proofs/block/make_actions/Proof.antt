@@ -1,5 +1,5 @@
 use Prim.Native.Nat.{ℕ, suc, _+_, _*_, _-_, _<_, _≤_}
-use mathlib.Core.Path.{_≡_, refl, sym, ap, _∙_}
+use mathlib.Core.Path.{_≡_, refl, ap, _∙_}
 use mathlib.Core.Bool.{Bool, false}
 use mathlib.Core.List.{List}
 use borrow.Author.Needs.{needs}
@@ -13,13 +13,13 @@ use Rattle.turns.specs.Turns.{userOf, Stands, Marked}
 use Rattle.trials.proofs.Parts.{next-size, next-holds}
 use Rattle.turns.proofs.Turning.{unasked-now, chosen-now, stands-on, marked-on}
 use Rattle.charts.specs.declared.Played.{Played}
-use Rattle.charts.specs.View.{mark, Sized}
+use Rattle.charts.specs.View.{mark, Sized, usersOf}
 use Rattle.link.specs.Reading.{heardBy}
 use Rattle.bus.specs.Advance.{glance}
 use Rattle.bus.specs.Plans.{tried}
 use Rattle.bus.proofs.ReadLaws.{ready-glance}
 use Rattle.bus.proofs.InPlace.{carries, advances}
-use Rattle.trials.specs.Trying.{part, usersOf}
+use Rattle.trials.specs.Trying.{part}
 use Rattle.trials.proofs.block.make_actions.Statement.{statement}
 use Rattle.trials.proofs.block.make_actions.Tie as tie
 use Rattle.trials.proofs.block.make_actions.Reads as reads
@@ -293,7 +293,7 @@ returns c =
     let l = c .before .loop in
     let args = c .before .before .before .before .before .before .before .before .before .before .before .before .before .before .before .before .before .before .before .before .before .before .args in
     let all : l .k ≡ args .count = omega (arith, l .inv .0) in
-    (rw all at (l .inv .1), rw all at (l .inv .4))
+    (rw all at (l .inv .1), (rw all at (l .inv .4), refl))
 
 pub make-actions-spec : {M : Type 1} → statement M
 make-actions-spec =
