@@ -4,8 +4,8 @@ use mathlib.Core.Logic.{⊎-elim}
 use mathlib.Core.Bool.{Bool, true, false, cond, _&&_, _||_, not}
 use Prim.Native.Nat.{ℕ, zero, suc, _<_, _≤_, _-_, _%_}
 use native.Mathlib.Omega.{arith}
-use lib.Dec.{eqb, ltb, leb}
-use borrow.Author.Tests.{eqb-true, eq-eqb, lt-ltb, ltb-true, ltb-false, not-true, not-false}
+use lib.Dec.{eqb, ltb}
+use borrow.Author.Tests.{eqb-true, eq-eqb, lt-ltb, ltb-true, ltb-false, not-true}
 use Rattle.charts.specs.declared.Signal.{Signal}
 use Rattle.charts.specs.declared.Signal.the-variants as S
 use Rattle.charts.specs.declared.Phase.{Phase}
@@ -15,14 +15,12 @@ use Rattle.charts.specs.declared.Report.the-variants.{Won}
 use Rattle.charts.specs.declared.Marking.the-variants as M
 use Rattle.charts.specs.declared.Buffer.{Buffer}
 use Rattle.charts.specs.declared.Buffer.the-variants.{Empty, Full}
-use Rattle.charts.specs.declared.Cell.{Cell}
-use Rattle.charts.specs.declared.Packet.{Packet}
 use Rattle.charts.specs.declared.Arrival.{Arrival}
 use Rattle.charts.specs.declared.Arrival.the-variants as A
 use Rattle.charts.specs.declared.Way.the-variants.{Pass, Lose}
 use Rattle.charts.specs.declared.Move.the-variants.{Request, Arbitrate, Respond, Clock, Carry, Grant, GapNext, Reset}
 use Rattle.charts.specs.declared.Action.{Action}
-use Rattle.charts.specs.declared.Decoded.the-variants.{Refused, Accepted}
+use Rattle.charts.specs.declared.Decoded.the-variants.{Accepted}
 use Rattle.charts.specs.declared.User.{User}
 use Rattle.charts.specs.declared.Kept.{Kept}
 use Rattle.charts.specs.Numbers as N
@@ -38,10 +36,10 @@ use Rattle.charts.specs.Records.{isAddress, moveOf, read, clean, packetO
 use Rattle.charts.specs.Valid.{valid}
 use Rattle.charts.specs.Step.{someAsked, carryOut, isAccepted, step}
 use Rattle.charts.specs.Asking.{ofNode}
-use Rattle.charts.specs.Demand.{isOpen, one}
-use Rattle.charts.specs.Trials.{Load, requestBy, respondBy, isDue, delivers, strays, holderOf, holdsNow, acts, isOver, asking, bidding, asker, starts, chooses, choice, onlyWaits, least, lefts, waits, lowered, waited}
+use Rattle.charts.specs.Demand.{isOpen}
+use Rattle.charts.specs.Trials.{Load, requestBy, respondBy, isDue, delivers, strays, holderOf, holdsNow, acts, asking, bidding, asker, starts, chooses, choice, onlyWaits, least, lefts, waits, waited}
 use Rattle.charts.specs.Settings.{HoldsAlone, HeldIfBusy}
-use Rattle.charts.proofs.Tools.{never, clash, implies, implied, and-true, both, or-false, or-true, and-no, pick, pick-by, by-test, below-suc, none-of, some-at, some-agree, lowest-none, lowest-of, lowest-lt, others-off, or-yes}
+use Rattle.charts.proofs.Tools.{never, clash, implies, implied, and-true, both, or-true, and-no, pick, pick-by, by-test, below-suc, none-of, some-at, some-agree, lowest-none, lowest-of, lowest-lt, others-off, or-yes}
 use Rattle.charts.proofs.Places.{law-mode, active}
 use Rattle.charts.proofs.Open.{Opens, opens, open-when, open-now, step-is, opens-it, read-named, clock-opens}
 

@@ -5,38 +5,35 @@ use mathlib.Core.Bool.{Bool, true, false, cond, _&&_, _||_, not}
 use mathlib.Core.List.{List, [], _∷_, _++_}
 use Prim.Native.Nat.{ℕ, zero, suc, _+_, _-_, _<_, _≤_}
 use native.Mathlib.Omega.{arith}
-use lib.Dec.{eqb, ltb, leb}
+use lib.Dec.{eqb, leb}
 use lib.ListN.{length, take, length-append}
 use lib.Seq.{take-all, take-append-le}
-use borrow.Author.Tests.{eqb-true, eqb-false, eq-eqb, ne-eqb, leb-true, leb-false, le-leb, lt-leb, not-true}
-use Rattle.charts.specs.declared.Phase.{Phase}
-use Rattle.charts.specs.declared.Phase.the-variants.{Idle, Busy, Delivering, Granting, Gapping}
+use borrow.Author.Tests.{eqb-true, eqb-false, eq-eqb, ne-eqb, leb-true, leb-false, le-leb, lt-leb}
 use Rattle.charts.specs.declared.Marking.{Marking}
 use Rattle.charts.specs.declared.Marking.the-variants as M
 use Rattle.charts.specs.declared.Report.the-variants.{Won}
 use Rattle.charts.specs.declared.Action.{Action}
 use Rattle.charts.specs.declared.User.{User}
-use Rattle.charts.specs.declared.Kept.{Kept}
 use Rattle.charts.specs.declared.Tally.{Tally}
 use Rattle.charts.specs.Modes.{isRest, isAnswering, isHolding, isAsked}
 use Rattle.charts.specs.Signals.{isChecked}
-use Rattle.charts.specs.State.{State, wons, askers, some, lowest, remarked, isIdle, isBusy, isEmpty, fresh}
+use Rattle.charts.specs.State.{State, wons, askers, some, remarked, isIdle, isEmpty, fresh}
 use Rattle.charts.specs.Actions.{mayAnswer}
 use Rattle.charts.specs.Records.{isAddress, moveOf}
 use Rattle.charts.specs.Valid.{valid}
-use Rattle.charts.specs.Step.{Result, Event, someAsked, step, after, events, eventOf}
+use Rattle.charts.specs.Step.{Result, Event, step, after, events, eventOf}
 use Rattle.charts.specs.Asking.{ofNode}
 use Rattle.charts.specs.Demand.{isOpen, one, final}
-use Rattle.charts.specs.Trials.{Load, requestBy, respondBy, isDue, delivers, holderOf, holdsNow, isOver, asking, bidding, asker, choice, onlyWaits, least, lefts, waits, waited, isCarried, checkedTo, came, rises, heardAfter, isOf, fills, filledAfter, wonBy, leftAfter, follows, turned, loadAfter, chosen, trial, counted, tallyOn}
-use Rattle.charts.specs.Settings.{HeldIfBusy, Turn, turnAt, turns, kindOf, nodeOf, reportOf, isPast, fillersOf, cameTo, Keeps, KeepsSettings, IsTrial}
-use Rattle.charts.proofs.Tools.{never, clash, and-true, both, or-false, or-true, and-no, and-yes, pick, pick-by, by-test, at-upd, none-of, some-none, lowest-of, lowest-lt}
+use Rattle.charts.specs.Trials.{Load, respondBy, isDue, delivers, holderOf, isOver, asking, bidding, asker, onlyWaits, least, lefts, waits, waited, isCarried, checkedTo, came, rises, heardAfter, isOf, fills, filledAfter, wonBy, leftAfter, follows, turned, loadAfter, chosen, trial, counted, tallyOn}
+use Rattle.charts.specs.Settings.{HeldIfBusy, Turn, turnAt, turns, reportOf, isPast, fillersOf, cameTo, KeepsSettings, IsTrial}
+use Rattle.charts.proofs.Tools.{never, clash, and-true, both, and-no, and-yes, pick, pick-by, by-test, at-upd, none-of, some-none, lowest-of, lowest-lt}
 use Rattle.charts.proofs.Steps.{Stepped, refused, stepped, step-n, run-n}
 use Rattle.charts.proofs.Steps as Steps
 use Rattle.charts.proofs.Askers.{isAsk}
 use Rattle.charts.proofs.Askers as Askers
 use Rattle.charts.proofs.Validity.{run-valid}
 use Rattle.charts.proofs.Whole.{demand-3, busy-held-of}
-use Rattle.charts.proofs.Chosen.{Chosen, carries, grants, gaps, answers, replies, clocks, asks, bids, resets, chosen-by, Ran, respond-open, bid-wins, holder-lt, least-le, Waiting, is-waiting, waits-none, all-empty, waited-on, chosen-opens}
+use Rattle.charts.proofs.Chosen.{Chosen, carries, grants, gaps, answers, replies, clocks, asks, bids, resets, chosen-by, Ran, respond-open, bid-wins, holder-lt, least-le, is-waiting, waits-none, all-empty, waited-on, chosen-opens}
 
 -- 1. THE LIST: one more action of a list, in the state that it leaves, in its events and in their tally
 pub after-more : (s : State) (l : List Action) (a : Action) → after s (l ++ (a ∷ [])) ≡ step (after s l) a .state

@@ -1,19 +1,15 @@
 -- One action put into the block under way. Assumes nothing.
-use mathlib.Core.Path.{_≡_, refl, sym, _∙_}
+use mathlib.Core.Path.{_≡_, refl, _∙_}
 use mathlib.Core.Bool.{true, false}
-use mathlib.Core.List.{List, [], _∷_, _++_, append-assoc, append-nil}
+use mathlib.Core.List.{List, [], _∷_, _++_}
 use Prim.Native.Nat.{ℕ, suc, _+_, _*_, _-_, _<_, _≤_}
 use native.Mathlib.Omega.{arith}
-use borrow.Author.Tests.{lt-ltb, le-ltb, le-leb, ne-eqb}
+use borrow.Author.Tests.{lt-ltb, le-ltb, ne-eqb}
 use lib.Dec.{eqb, ltb}
-use lib.ListN.{length, take, drop, length-append, length-drop}
-use lib.Seq.{take-at}
+use lib.ListN.{length, take, length-append}
 use Rattle.charts.specs.declared.Action.{Action}
-use Rattle.record.specs.Bytes.{putAt}
-use Rattle.record.specs.Layout.{bytesOf, recordsOf}
-use Rattle.record.proofs.Round.{length-bytes}
+use Rattle.record.specs.Layout.{recordsOf}
 use Rattle.runfile.specs.Write.{writeNumber, blockOf}
-use Rattle.runfile.proofs.Lists.{records-length}
 use Rattle.runfile.proofs.Rows.{stored-size, stored-holds}
 use Rattle.notation.specs.declared.Stage.the-variants.{Going}
 use Rattle.composer.specs.declared.Composer.{Composer}

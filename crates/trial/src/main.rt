@@ -66,20 +66,22 @@ fn write(file: &[u8], size: usize, tally: Tally) {
     io::write_all(STDERR_FILENO, &text[..end]);
 }
 
-// Makes the trial. The settings are not refused, since the lines that would be are faults of the text.
-fn make(s: Settings) {
-    let mut file = [0u8; 1082880];
+// Makes the trial by way of a buffer. The settings are not refused, since the lines that would be are faults of the text.
+fn make(s: Settings, file: &mut [u8; 1082880]) {
     let users = s.users;
-    let tried = trials::attempt(s.n, users, s.actions, &mut file);
+    let tried = trials::attempt(s.n, users, s.actions, file);
     let tally = tried.tally;
-    write(&file, tried.size, tally);
+    write(file, tried.size, tally);
 }
 
 // Says what is wrong, or makes the trial.
 fn answer(s: Settings, line: &[u8]) {
     let stage = s.stage;
     match stage {
-        Stage::Going => make(s),
+        Stage::Going => {
+            let mut file = [0u8; 1082880];
+            make(s, &mut file);
+        }
         Stage::Stopped(fault) => texts::report(Text::Settings, s.n, s.line, fault, line),
     }
 }

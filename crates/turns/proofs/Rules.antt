@@ -4,10 +4,9 @@ use mathlib.Core.Logic.{_≢_}
 use mathlib.Core.Bool.{Bool, true, false, cond, _&&_, _||_, not, true≢false}
 use Prim.Native.Nat.{ℕ, zero, suc, _+_, _<_, _≤_}
 use native.Mathlib.Omega.{arith}
-use lib.Dec.{eqb, ltb}
-use borrow.Author.Tests.{eqb-true, eqb-false, eq-eqb, lt-ltb, not-true}
+use lib.Dec.{eqb}
+use borrow.Author.Tests.{eqb-true, lt-ltb, not-true}
 use Rattle.charts.specs.declared.Action.{Action}
-use Rattle.charts.specs.declared.Kept.{Kept}
 use Rattle.charts.specs.declared.Move.{Move}
 use Rattle.charts.specs.declared.Move.the-variants.{Arbitrate, Respond, Clock, Carry, Grant, GapNext, Reset, Ask, Decide}
 use Rattle.charts.specs.declared.Way.the-variants.{Pass, Lose, Change}
@@ -17,19 +16,19 @@ use Rattle.charts.specs.declared.Report.{Report}
 use Rattle.charts.specs.declared.Report.the-variants as R
 use Rattle.charts.specs.declared.Tally.{Tally}
 use Rattle.charts.specs.declared.User.{User}
-use Rattle.charts.specs.Modes.{isAnswering, isHolding}
+use Rattle.charts.specs.Modes.{isAnswering}
 use Rattle.charts.specs.Signals.{isChecked}
-use Rattle.charts.specs.State.{State, wons, holders, upd, some, lowest, isIdle, isEmpty}
+use Rattle.charts.specs.State.{wons, holders, upd, some, lowest, isIdle, isEmpty}
 use Rattle.charts.specs.Actions.{nextOf}
 use Rattle.charts.specs.Records.{moveOf}
 use Rattle.charts.specs.Step.{accepted}
 use Rattle.charts.specs.Asking.{ofNode}
 use Rattle.charts.specs.Demand.{one}
-use Rattle.charts.specs.Trials.{Load, requestBy, isDue, delivers, strays, holderOf, acts, isOver, asking, bidding, asker, starts, chooses, choice, onlyWaits, least, lefts, waits, isCarried, checkedTo, came, heardAfter, isOf, fills, filledAfter, madeAfter, isRequest, reported, requested, counted}
-use Rattle.charts.proofs.Tools.{never, clash, and-true, both, or-false, and-no, and-yes, or-yes, pick, pick-by, by-test, none-of, some-at, some-none, some-agree, lowest-none, lowest-agree, lowest-of, lowest-lt}
-use Rattle.charts.proofs.Chosen.{Chosen, carries, grants, gaps, answers, replies, clocks, asks, bids, resets, least-le, Waiting, is-waiting, all-empty, waits-none}
+use Rattle.charts.specs.Trials.{Load, requestBy, isDue, delivers, strays, holderOf, asking, bidding, asker, starts, chooses, choice, onlyWaits, least, lefts, waits, isCarried, checkedTo, came, heardAfter, isOf, fills, filledAfter, madeAfter, isRequest, reported, counted}
+use Rattle.charts.proofs.Tools.{never, clash, and-true, both, or-false, and-no, and-yes, pick, pick-by, by-test, none-of, some-none, lowest-none, lowest-agree, lowest-of, lowest-lt}
+use Rattle.charts.proofs.Chosen.{Chosen, carries, grants, gaps, answers, replies, clocks, asks, bids, resets, least-le, is-waiting, all-empty, waits-none}
 use Rattle.turns.proofs.Negated.{not-not}
-use Rattle.turns.specs.Turns.{isFull, overs, without, firstOf, waitsBy, placed, actorBy, startsAt, choosesAt, capped, checkedIn, filledBy, madeBy, counter, requestCounted, reportCounted}
+use Rattle.turns.specs.Turns.{isFull, overs, without, firstOf, waitsBy, actorBy, startsAt, choosesAt, capped, checkedIn, filledBy, madeBy, counter, requestCounted, reportCounted}
 
 lowest-same : (f : ℕ → Bool) (n d e : ℕ) → some f n ≡ true → lowest f n d ≡ lowest f n e
 lowest-same f zero d e t = never t

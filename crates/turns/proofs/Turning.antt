@@ -2,8 +2,8 @@
 use mathlib.Core.Path.{_≡_, refl, sym, ap, ap₂, subst, _∙_, fun-ext}
 use mathlib.Core.Bool.{Bool, true, false, cond, _&&_, not}
 use mathlib.Core.Logic.{_≢_}
-use mathlib.Core.List.{List, [], _∷_, _++_}
-use Prim.Native.Nat.{ℕ, zero, suc, _+_, _-_, _<_, _≤_}
+use mathlib.Core.List.{List, [], _∷_}
+use Prim.Native.Nat.{ℕ, suc, _+_, _-_, _<_, _≤_}
 use native.Mathlib.Omega.{arith}
 use lib.Dec.{eqb, ltb}
 use lib.ListN.{getD, set, length, length-set}
@@ -19,19 +19,19 @@ use Rattle.charts.specs.declared.Report.the-variants as R
 use Rattle.charts.specs.declared.Tally.{Tally}
 use Rattle.charts.specs.declared.User.{User}
 use Rattle.charts.specs.Modes.{isAnswering, isSpurious}
-use Rattle.charts.specs.State.{State, wons, holders, upd, isIdle, isEmpty, fresh}
+use Rattle.charts.specs.State.{State, upd, isIdle, isEmpty, fresh}
 use Rattle.charts.specs.Actions.{nextOf}
 use Rattle.charts.specs.Records.{moveOf}
 use Rattle.charts.specs.Valid.{valid}
-use Rattle.charts.specs.Step.{Result, Event, refusal, accepted, isAccepted, someAsked, eventOf, events, step}
+use Rattle.charts.specs.Step.{Event, refusal, accepted, isAccepted, someAsked, eventOf, events, step}
 use Rattle.charts.specs.Demand.{isOpen, one, final, history}
 use Rattle.charts.specs.Trials.{Load, reported, choice, waits, waited, isCarried, heardAfter, wonBy, keeps, follows, turned, acted, loadAfter, chosen, trial, counted, noTally, tallyOn, tallyOf, isRequest}
 use Rattle.charts.specs.View.{view, cellOf, mark, freshNode, seen, Sized}
 use Rattle.charts.proofs.Steps.{is-valid, next-lt}
 use Rattle.charts.proofs.Tools.{and-true, both, pick, upd-map}
 use Rattle.charts.proofs.Views.{getD-set}
-use Rattle.charts.proofs.Chosen.{Chosen, chosen-by, Ran}
-use Rattle.charts.proofs.Settings.{is-trial, after-more, events-more, tally-more, ran, keeps-settings, filled-le, fills-short, made-le}
+use Rattle.charts.proofs.Chosen.{Chosen, chosen-by}
+use Rattle.charts.proofs.Settings.{is-trial, events-more, tally-more, ran, keeps-settings, filled-le, fills-short, made-le}
 use Rattle.bus.specs.Advance.{advanceOf}
 use Rattle.bus.specs.Asking.{places}
 use Rattle.bus.proofs.Advances.{advance-is-step}
