@@ -18,7 +18,7 @@ use Rattle.charts.specs.Step.{step}
 use Rattle.charts.specs.Demand.{isOpen, one, final}
 use Rattle.charts.specs.Trials.{waits, loadAfter, chosen, trial, strays, bidding, came, isOf, fills, wonBy, respondBy}
 
--- 1. WHO HOLDS A BUSY BUS, in every run: "some holder is Spurious, or there is one holder alone, in Sending, Answering, Acking or Holding"
+-- 1. WHO HOLDS A BUSY BUS: "in every run from a fresh bus a Busy bus has a holder in Spurious, or one holder alone, in Sending, Answering, Acking or Holding"
 abbrev pub isBusyWith : Mode → Bool
 isBusyWith m = isSending m || (isAnswering m || (isAcking m || isHolding m))
 

@@ -25,19 +25,19 @@ use Rattle.charts.specs.Step.{Result, Event, refusal, accepted, step}
 use Rattle.charts.specs.Asking.{ofNode}
 use Rattle.charts.specs.Demand.{one}
 
--- a trial under way: the bus, and "kept beside the bus, for each user four numbers"
+-- a trial under way: "Beside the bus, which starts fresh, four numbers for each user"
 pub record Load : Type 0 where
   pub state : State
   pub kept : ℕ → Kept
 
--- "all 0 at the start"; "The bus starts fresh"
+-- "all 0 at first"
 abbrev pub nothingKept : Kept
 nothingKept = record { left = 0; heard = 0; filled = 0; made = 0 }
 
 abbrev pub begins : ℕ → Load
 begins n = record { state = fresh n; kept = λ k. nothingKept }
 
--- 1. THE NEXT ACTION. "Request of i: kind 1, node i, its user's address, header i, data made, label made modulo 64"
+-- 1. THE NEXT ACTION. "The request of i is kind 1 of node i, to its user's address, with header i, data made and label made modulo 64."
 abbrev pub requestBy : ℕ → User → Kept → Action
 requestBy i u x = record { kind = 1; node = i; address = u .address; ack = 0; hold = 0; label = x .made % 64; byte6 = 0; byte7 = 0; header = i; datum = x .made }
 
@@ -45,33 +45,33 @@ requestBy i u x = record { kind = 1; node = i; address = u .address; ack = 0; ho
 abbrev pub respondBy : ℕ → Bool → Action
 respondBy i hold = record { kind = 3; node = i; address = 0; ack = 1; hold = one hold; label = 0; byte6 = 0; byte7 = 0; header = 0; datum = 0 }
 
--- "Delivering. The signal is a Header, Data or Ack, and the next receiver's heard + 1 is its period: lose. Otherwise pass."
+-- "Delivering: lose, if the signal is a Header, Data or Ack and the next receiver's heard + 1 is its period; else pass."
 abbrev pub isDue : User → Kept → Bool
 isDue u x = eqb (suc (x .heard)) (u .period)
 
 abbrev pub delivers : Signal → User → Kept → Action
 delivers g u x = ofNode (cond (isChecked g && isDue u x) 6 5) 0
 
--- "Busy. Take the lowest Spurious holder or, if there is none, the lowest holder"
+-- "Busy: the node i is the lowest holder in Spurious or, if no holder is, the lowest holder."
 abbrev pub strays : State → ℕ → Bool
 strays s k = s .cell k .holder && isSpurious (s .cell k .mode)
 
 unfoldable pub holderOf : State → ℕ
 holderOf s = lowest (strays s) (s .n) (lowest (holders (s .cell)) (s .n) 0)
 
--- "hold 1 if its user holds and request 1's mark is clear, else hold 0"
+-- "with hold 1 if its user holds and the bus's mark is clear […], else with hold 0"
 abbrev pub holdsNow : User → Bool → Bool
 holdsNow u concatenated = u .hold && not concatenated
 
--- "i in Answering, filled equal to its fillers: respond of i […] i in Holding: request of i. Otherwise: clock i. (In Answering this is a filler.)"
+-- "i in Answering, with filled equal to its fillers: respond of i with acknowledgement 1 […] i in Holding: the request of i. Else: clock i. In Answering that is a filler."
 unfoldable pub acts : Bool → ℕ → Mode → User → Kept → Action
 acts concatenated i m u x =
     cond (isAnswering m && eqb (x .filled) (u .fillers)) (respondBy i (holdsNow u concatenated))
     (cond (isHolding m) (requestBy i u x)
     (ofNode 4 i))
 
--- "Idle. a. Some node has an empty buffer and its spell is over: request of the lowest such node. b. Some node has a full buffer and no won mark: arbitrate, the lowest such node.
--- c. Some node has the won mark: reset."
+-- "Idle: the first of these that is so. a. A node has an empty buffer and its spell is over: the request of the lowest such node. b. A node has a full buffer and no won mark: arbitrate,
+-- the lowest such node. c. A node has the won mark: reset."
 abbrev pub isOver : Kept → Bool
 isOver x = eqb (x .left) 0
 
@@ -90,7 +90,7 @@ starts us l =
     (cond (some (bidding (l .state)) (l .state .n)) (ofNode 2 (lowest (bidding (l .state)) (l .state .n) 0))
     (ofNode 10 0))
 
--- "The bus's phase decides where to look"; "Granting: grant. Gapping: gap."
+-- "The bus's phase says which of the five rules chooses." "Granting: grant. Gapping: gap."
 abbrev pub chooses : (ℕ → User) → Load → Phase → Action
 chooses us l Idle = starts us l
 chooses us l Busy = acts (l .state .concatenated) (holderOf (l .state)) (l .state .cell (holderOf (l .state)) .mode) (us (holderOf (l .state))) (l .kept (holderOf (l .state)))
@@ -101,7 +101,7 @@ chooses us l (Gapping j) = ofNode 9 0
 unfoldable pub choice : (ℕ → User) → Load → Action
 choice us l = chooses us l (l .state .phase)
 
--- 2. WAITING. "Only waiting is left": on an Idle bus a, b and c find nothing
+-- 2. WAITING. "d. Only waiting is left": on an Idle bus a, b and c find nothing
 unfoldable pub onlyWaits : Load → Bool
 onlyWaits l =
     isIdle (l .state .phase) && (not (some (asking l) (l .state .n)) && (not (some (bidding (l .state)) (l .state .n)) && not (some (wons (l .state .cell)) (l .state .n))))
@@ -124,7 +124,7 @@ lowered w x = record { left = x .left - w; heard = x .heard; filled = x .filled;
 unfoldable pub waited : Load → Load
 waited l = record { state = l .state; kept = λ k. lowered (waits l) (l .kept k) }
 
--- 3. WHAT FOLLOWS AN ACTION. "A Header, Data or Ack was passed or lost", and k is the receiver
+-- 3. WHAT FOLLOWS AN ACTION. "A Header, Data or Ack was passed or lost", and k is "the node that it came to"
 abbrev pub isCarried : Action → Bool
 isCarried a = eqb (a .kind) 5 || eqb (a .kind) 6
 
@@ -138,14 +138,14 @@ checkedTo k (Gapping j) = false
 abbrev pub came : ℕ → State → Action → Bool
 came k s a = isCarried a && checkedTo k (s .phase)
 
--- "and the receiver's period is not 0: heard rises by 1, and goes back to 0 where it reaches the period"
+-- "and the period of the node that it came to is not 0: that node's heard rises by 1, and at the period it goes back to 0"
 abbrev pub rises : ℕ → ℕ → ℕ
 rises period heard = cond (leb period (suc heard)) 0 (suc heard)
 
 abbrev pub heardAfter : Bool → ℕ → ℕ → ℕ
 heardAfter comes period heard = cond (comes && not (eqb period 0)) (rises period heard) heard
 
--- "A clock of an Answering node: its filled rises by 1. A respond: its filled goes back to 0. A request, from Rest or from Holding: its made rises by 1."
+-- "A clock of a node in Answering: its filled rises by 1. A respond: its filled goes back to 0. A request, into the buffer or in Holding: its made rises by 1."
 abbrev pub isOf : ℕ → ℕ → Action → Bool
 isOf kind k a = eqb (a .kind) kind && eqb k (a .node)
 
@@ -185,7 +185,7 @@ keeps k u s a r x = record {
 unfoldable pub follows : (ℕ → User) → Load → Action → Result → Load
 follows us l a r = record { state = r .state; kept = λ k. keeps k (us k) (l .state) a (r .report) (l .kept k) }
 
--- 4. THE TRIAL. "first the waiting […]; then the choice […]; then the step; then what follows"
+-- 4. THE TRIAL. "each turn is: wait […], choose […], step, and what follows"
 abbrev pub acted : (ℕ → User) → Load → Load
 acted us l = follows us l (choice us l) (step (l .state) (choice us l))
 
@@ -215,7 +215,7 @@ trialNumber us n k =
     (cond (eqb k 0) N.wrong-count
     N.accepted))
 
--- 5. THE TALLY, of any list of events: "requests, wins, each kind of confirmation, drops". "kind 1 adds 1 to requests"
+-- 5. THE TALLY, of any list of events: "a request (kind 1) adds 1 to requests"
 abbrev pub isRequest : Move → Bool
 isRequest (Request i p) = true
 isRequest (Arbitrate i) = false
@@ -228,7 +228,7 @@ isRequest Reset = false
 isRequest (Ask i) = false
 isRequest (Decide i) = false
 
--- "the report won [adds 1] to wins, sent to sent, ack to ack, miss to miss, drop to drops. Nothing else changes it."
+-- "the report won adds 1 to wins, sent to sent, ack to ack, miss to miss, drop to drops. Nothing else changes it."
 abbrev pub reported : Report → Tally → Tally
 reported Silent t = t
 reported (Won i) t = record { requests = t .requests; wins = suc (t .wins); sent = t .sent; acks = t .acks; misses = t .misses; drops = t .drops }
@@ -248,7 +248,7 @@ abbrev pub counted : Event → Tally → Tally
 counted (refusal k) t = t
 counted (accepted m r) t = reported r (requested (isRequest m) t)
 
--- "from all 0"
+-- "The tally starts at 0 too, whatever it held."
 abbrev pub noTally : Tally
 noTally = record { requests = 0; wins = 0; sent = 0; acks = 0; misses = 0; drops = 0 }
 

@@ -24,7 +24,7 @@ abbrev pub part : (ℕ → User) → ℕ → ℕ → ℕ → List Action
 part us n from zero = []
 part us n from (suc k) = part us n from k ++ (chosen us n (from + k) ∷ [])
 
--- what a trial gives, with the tally that was kept before it: "A refusal leaves the tally as it was"
+-- what a trial gives, with the tally that was kept before it: "and then the tally stays as it was"
 abbrev pub refused : Tally → ℕ → Tried
 refused old number = record { number = number; size = 0; tally = old }
 

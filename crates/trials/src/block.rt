@@ -27,7 +27,7 @@ pub(crate) struct Made {
 }
 
 // Makes so many actions, after `done` of them. As in the player, the bus's arrays are locals here and each action changes them in place: to hand the
-// record to `bus::advance` and back would take five times as long.
+// record to `bus::advance` and back would take more than three times as long.
 pub(crate) fn make_actions(t: Trial, users: Users, done: u32, count: usize) -> Made
     requires { ⌜ Allowed (usersOf users) (t .bus .n) ⌝ }
     requires { ⌜ StandsAt (usersOf users) done t ⌝ }
