@@ -1,16 +1,17 @@
 -- What a text of settings means, a trial takes: none of 1, 5 and 11 refuses it. Assumes nothing.
-use mathlib.Core.Path.{_≡_, refl, sym, _∙_}
+use mathlib.Core.Path.{_≡_, refl, sym, ap, _∙_}
 use mathlib.Core.Bool.{Bool, true, false, cond, not}
 use mathlib.Core.List.{List, [], _∷_}
-use Prim.Native.Nat.{ℕ, zero, suc}
+use Prim.Native.Nat.{ℕ, suc}
 use native.Mathlib.Omega.{arith}
 use borrow.Author.Tests.{ltb-true, lt-ltb, ne-eqb}
 use lib.Dec.{eqb, ltb}
 use Rattle.charts.specs.Numbers as N
 use Rattle.charts.specs.Records.{isAddress}
-use Rattle.charts.specs.State.{upd, some}
+use Rattle.charts.specs.State.{upd}
 use Rattle.charts.specs.Trials.{strayAddress, trialNumber}
 use Rattle.charts.specs.Valid.{isSize}
+use Rattle.charts.proofs.Tools.{some-none}
 use Rattle.charts.specs.declared.User.{User}
 use Rattle.runfile.proofs.Loops.{and-left}
 use Rattle.faults.specs.declared.Fault.the-variants as F
@@ -88,10 +89,6 @@ abbrev Takes : Meaning → Type 0
 Takes (trial n k us) = trialNumber us n k ≡ N.accepted
 Takes (wrong i f) = Unit
 
-none-stray : (us : ℕ → User) (n m : ℕ) → ((j : ℕ) → isAddress n (us j .address) ≡ true) → some (strayAddress us n) m ≡ false
-none-stray us n zero h = refl
-none-stray us n (suc m) h = rw (h m) (none-stray us n m h)
-
 end-takes : (i n k : ℕ) (us : ℕ → User) → Fine n us → Takes (endOn i (trial n k us) (endStage n k))
 unfolding trialNumber
 end-takes i n k us fine = go (eqb n 0) (eqb k 0) refl refl
@@ -99,7 +96,7 @@ end-takes i n k us fine = go (eqb n 0) (eqb k 0) refl refl
     go : (b c : Bool) → eqb n 0 ≡ b → eqb k 0 ≡ c → Takes (endOn i (trial n k us) (cond b (Stopped F.NodesMissing) (cond c (Stopped F.NoAction) Going)))
     go true c p q = tt
     go false true p q = tt
-    go false false p q = rw (fine .size p, none-stray us n n (fine .sent p), q)
+    go false false p q = rw (fine .size p, some-none (strayAddress us n) n (λ j h. ap not (fine .sent p j)), q)
 
 all-take : (ts : List (List ℕ)) (i n k : ℕ) (us : ℕ → User) → Fine n us → Takes (settingsFrom ts i n k us)
 all-take [] i n k us fine = end-takes i n k us fine
