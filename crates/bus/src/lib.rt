@@ -33,7 +33,7 @@ mod decide;
 mod marks;
 pub mod phases;
 pub mod plans;
-mod validity;
+pub mod validity;
 
 const WRONG_SIZE: u8 = 1;
 

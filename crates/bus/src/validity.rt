@@ -161,7 +161,7 @@ fn nodes_fit(b: Bus) -> bool
     fit
 }
 
-pub(crate) fn is_valid(b: Bus) -> bool
+pub fn is_valid(b: Bus) -> bool
     ensures { λ r. ⌜ r ≡ valid (view b) ⌝ }
 {
     let phase = b.phase;

@@ -19,6 +19,9 @@ use Rattle.charts.specs.declared.Phase.the-variants.{Idle, Busy, Deliver
 use Rattle.charts.specs.declared.Way.the-variants.{Pass}
 use Rattle.charts.specs.declared.Move.the-variants.{Carry}
 use Rattle.charts.specs.declared.Action.{Action}
+use Rattle.charts.specs.declared.Word.{Word}
+use Rattle.charts.specs.declared.Word.the-variants as W
+use Rattle.charts.specs.declared.Question.{Question}
 use Rattle.charts.specs.Numbers as N
 use Rattle.charts.specs.Reception.{hears}
 use Rattle.charts.specs.Outputs.{output}
@@ -32,6 +35,7 @@ use Rattle.charts.specs.Step.{Result, Event, refuses, play, look, step, 
 use Rattle.charts.specs.Demand as Demand
 use Rattle.charts.specs.Demand.{history, allForward, meetsIdle}
 use Rattle.charts.specs.Stretch.{Witnessed}
+use Rattle.charts.specs.Routes.{IsRoute, gives, routeNumber}
 use Rattle.charts.proofs.Whole.{every-confirmation-of}
 use Rattle.charts.proofs.Steps as S
 use Rattle.charts.proofs.Steps.{Stepped, stepped}
@@ -326,3 +330,37 @@ refused-keeps s x = go (stepped s x)
     go : {r : Result} {e : Event} → Stepped s x r e → isAccepted r ≡ false → r ≡ refuses s (r .number)
     go (S.refused k) q = refl
     go (S.acts v k l f w) q = absurd (true≢false q)
+
+-- request 9: a question about a state handed in, its depth, and the number of its refusal
+pub record Asked : Type 0 where
+  pub handed : State
+  pub question : Question
+  pub depth : ℕ
+  pub number : ℕ
+
+abbrev asked : State → Word → ℕ → ℕ → ℕ → Asked
+asked s w i d k = record { handed = s; question = record { word = w; node = i }; depth = d; number = k }
+
+abbrev pub questions : List Asked
+questions =
+    asked (fresh 8) W.Miss 7 6 0
+    ∷ asked (fresh 2) W.Won 1 0 0
+    ∷ asked (fresh 1) W.Miss 0 0 12
+    ∷ asked (fresh 8) W.Miss 0 7 14  -- depth over 6
+    ∷ asked (fresh 9) W.Miss 0 0 14  -- n over 8
+    ∷ asked (fresh 8) W.Miss 8 0 4  -- a node not below n, at depth 0 too
+    -- "looked at after 12", "looked at last": each of these has two faults, and the first one all three
+    ∷ asked (fresh 64) W.Miss 64 7 12
+    ∷ asked (fresh 0) W.Miss 0 0 12
+    ∷ asked (fresh 8) W.Miss 8 7 14
+    ∷ asked (fresh 63) W.Miss 63 6 14
+    ∷ []
+
+pub questions-hold : map (λ (x : Asked). routeNumber (x .handed) (x .question) (x .depth)) questions ≡ map (λ (x : Asked). x .number) questions
+unfolding routeNumber valid phaseFits cellFits modeFits
+questions-hold = refl
+
+-- "which bus events could make node 0 miss": E, with its Ack under way. It is lost, and node 1's End comes to a node that has heard no Ack
+pub lost-ack : IsRoute (after (fresh 2) (take 19 (b 0))) (record { word = W.Miss; node = 0 }) 3 (lose ∷ clock 1 ∷ pass ∷ [])
+unfolding step look play outcome Actions.request Actions.arbitrate Actions.respond Actions.clock Actions.carry Actions.grant Actions.gap Actions.reset Actions.ask Actions.decide output arrives hears clean moveOf read valid phaseFits cellFits modeFits gives
+lost-ack = record { within = lit≤ tt; kinds = refl; accepted = refl; reports = refl }

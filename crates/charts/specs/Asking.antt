@@ -9,12 +9,13 @@ use Rattle.charts.specs.declared.Action.{Action}
 use Rattle.charts.specs.Modes.{isAsked}
 use Rattle.charts.specs.Reception.{Reception, goes}
 use Rattle.charts.specs.State.{State, isEmpty}
+use Rattle.charts.specs.Records.{named}
 use Rattle.charts.specs.Step.{someAsked, step}
 use Rattle.charts.specs.Demand.{isOpen, final}
 
 -- a record that names node i alone: of kind 2, 11 or 12
 abbrev pub ofNode : ℕ → ℕ → Action
-ofNode kind i = record { kind = kind; node = i; address = 0; ack = 0; hold = 0; label = 0; byte6 = 0; byte7 = 0; header = 0; datum = 0 }
+ofNode kind i = named kind i 0
 
 -- "Asked stays on every signal"
 abbrev pub AskedStays : Reception → Type 0

@@ -21,3 +21,4 @@ pub mod Asking
 pub mod Sequences
 pub mod Trials
 pub mod Settings
+pub mod Routes

@@ -56,3 +56,7 @@ not-valid = 12
 -- 13 (request 3): label over 63
 abbrev pub wrong-label : ℕ
 wrong-label = 13
+
+-- 14 (request 9): depth over 6 or n over 8
+abbrev pub too-deep : ℕ
+too-deep = 14

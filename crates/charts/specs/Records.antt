@@ -38,6 +38,13 @@ clean a =
     && ((namesAnswer (a .kind) || (eqb (a .ack) 0 && eqb (a .hold) 0))
     && (namesPacket (a .kind) || (eqb (a .label) 0 && (eqb (a .header) 0 && eqb (a .datum) 0)))))))
 
+-- a record that names at most a node and an address; the record of zeros
+abbrev pub named : ℕ → ℕ → ℕ → Action
+named kind i b = record { kind = kind; node = i; address = b; ack = 0; hold = 0; label = 0; byte6 = 0; byte7 = 0; header = 0; datum = 0 }
+
+abbrev pub blank : Action
+blank = named 0 0 0
+
 -- an address "below n" or 63
 abbrev pub isAddress : ℕ → ℕ → Bool
 isAddress n a = ltb a n || eqb a everybody

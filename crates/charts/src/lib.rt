@@ -272,3 +272,31 @@ pub struct Tally {
     pub misses: u16,
     pub drops: u16,
 }
+
+// A report's kind: its first word.
+pub enum Word {
+    Won,
+    Lost,
+    Sent,
+    Ack,
+    Miss,
+    Drop,
+    Good,
+    Dcrc,
+    Broad,
+}
+
+// What a route is to lead to: "a report kind with its node".
+pub struct Question {
+    pub word: Word,
+    pub node: u8,
+}
+
+// What a search for a route answers: 0 or the number of its refusal; whether there is a route, and that route's records with their count. The other places
+// hold records of zeros.
+pub struct Answer {
+    pub number: u8,
+    pub found: bool,
+    pub count: u8,
+    pub actions: [Action; 6],
+}

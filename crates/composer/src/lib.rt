@@ -2,7 +2,7 @@
 ghost use mathlib.Core.Path.{_≡_};
 ghost use Prim.Native.Nat.{_≤_};
 ghost use lib.ListN.{replicate};
-ghost use Rattle.record.specs.Layout.{blank};
+ghost use Rattle.charts.specs.Records.{blank};
 ghost use Rattle.composer.specs.Composer.{stopped, onLine, toPut, nodesTaken, actionTaken, lineTaken, feedOf};
 ghost use Rattle.composer.specs.Composer.{withBlock, flushOf, heldAfter, putOf, putHeld, usedBy, finishOf, finishHeld, startOf};
 use charts::Action;

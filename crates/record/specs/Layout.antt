@@ -5,6 +5,7 @@ use Prim.Native.Nat.{ℕ, zero, suc, _<_}
 use lib.Dec.{ltb}
 use lib.ListN.{length, drop, getD}
 use Rattle.charts.specs.declared.Action.{Action}
+use Rattle.charts.specs.Records.{blank}
 use Rattle.record.specs.Bytes.{little, value, bound}
 
 -- a record's 16 bytes
@@ -12,10 +13,6 @@ unfoldable pub bytesOf : Action → List ℕ
 bytesOf a =
     a .kind ∷ a .node ∷ a .address ∷ a .ack ∷ a .hold ∷ a .label ∷ a .byte6 ∷ a .byte7
     ∷ (little 4 (a .header) ++ little 4 (a .datum))
-
--- the record of zeros
-abbrev pub blank : Action
-blank = record { kind = 0; node = 0; address = 0; ack = 0; hold = 0; label = 0; byte6 = 0; byte7 = 0; header = 0; datum = 0 }
 
 -- the record that the first 16 bytes of a list are
 abbrev pub laidOut : List ℕ → Action

@@ -5,7 +5,7 @@ ghost use mathlib.Core.List.{[], _∷_};
 ghost use Prim.Native.Nat.{_+_, _<_, _≤_};
 ghost use lib.ListN.{length};
 ghost use lib.Seq.{sets};
-ghost use Rattle.charts.specs.Records.{isKind, namesNode, namesAddress, clean, isAddress, isLabel, moveOf, read};
+ghost use Rattle.charts.specs.Records.{isKind, namesNode, namesAddress, clean, named, isAddress, isLabel, moveOf, read};
 ghost use Rattle.record.specs.Bytes.{little, value, hasRoom, putAt};
 ghost use Rattle.record.specs.Layout.{bytesOf, actionAt};
 ghost use Rattle.record.specs.Looked.{numberOf};
@@ -167,6 +167,24 @@ pub fn decode(n: u8, a: Action) -> Decoded
     Decoded::Accepted(move_of(a))
 }
 
+// A record that names at most a node and an address.
+pub fn named(kind: u8, node: u8, address: u8) -> Action
+    ensures { λ r. ⌜ r ≡ named kind node address ⌝ }
+{
+    Action {
+        kind: kind,
+        node: node,
+        address: address,
+        ack: 0,
+        hold: 0,
+        label: 0,
+        byte6: 0,
+        byte7: 0,
+        header: 0,
+        datum: 0,
+    }
+}
+
 // The number by which a record that was looked at is refused, or 0.
 pub fn number(d: Decoded) -> u8
     ensures { λ r. ⌜ r ≡ numberOf d ⌝ }
@@ -189,18 +207,7 @@ pub fn read_action(part: &[u8]) -> Action
     ensures { λ r. ⌜ r ≡ actionAt (now (part .entry)) ⌝ }
 {
     if part.len() < 16 {
-        return Action {
-            kind: 0,
-            node: 0,
-            address: 0,
-            ack: 0,
-            hold: 0,
-            label: 0,
-            byte6: 0,
-            byte7: 0,
-            header: 0,
-            datum: 0,
-        };
+        return named(0, 0, 0);
     }
     Action {
         kind: part[0],

@@ -2,7 +2,6 @@
 ghost use mathlib.Core.Path.{_≡_};
 ghost use mathlib.Core.Bool.{_&&_, not};
 ghost use Rattle.charts.specs.Demand.{one};
-ghost use Rattle.charts.specs.Asking.{ofNode};
 ghost use Rattle.charts.specs.Trials.{requestBy, respondBy, isDue, delivers, acts};
 ghost use Rattle.turns.specs.Turns.{startsAt, choosesAt};
 use crate::scan::is_full;
@@ -14,6 +13,7 @@ use charts::Mode;
 use charts::Phase;
 use charts::Signal;
 use charts::User;
+use record::named;
 
 const ARBITRATE: u8 = 2;
 
@@ -28,24 +28,6 @@ const GRANT: u8 = 8;
 const GAP: u8 = 9;
 
 const RESET: u8 = 10;
-
-// An action of a kind that names at most a node.
-fn of_node(kind: u8, node: u8) -> Action
-    ensures { λ r. ⌜ r ≡ ofNode kind node ⌝ }
-{
-    Action {
-        kind: kind,
-        node: node,
-        address: 0,
-        ack: 0,
-        hold: 0,
-        label: 0,
-        byte6: 0,
-        byte7: 0,
-        header: 0,
-        datum: 0,
-    }
-}
 
 // The request of node i: data and label count its requests.
 fn request(i: u8, u: User, x: Kept) -> Action
@@ -101,9 +83,9 @@ fn deliver(s: Signal, u: User, x: Kept) -> Action
     ensures { λ r. ⌜ r ≡ delivers s u x ⌝ }
 {
     if both(link::signals::is_checked(s), is_due(u, x)) {
-        return of_node(LOSE, 0);
+        return named(LOSE, 0, 0);
     }
-    of_node(PASS, 0)
+    named(PASS, 0, 0)
 }
 
 // What the holder i does. In Answering its clock is a filler.
@@ -116,7 +98,7 @@ fn act(concatenated: bool, i: u8, mode: Mode, u: User, x: Kept) -> Action
     if link::modes::is_holding(mode) {
         return request(i, u, x);
     }
-    of_node(CLOCK, i)
+    named(CLOCK, i, 0)
 }
 
 // What node i does on an Idle bus: it asks, or else arbitrates; where nobody can, the bus is reset.
@@ -128,9 +110,9 @@ fn start(i: u8, c: Cell, u: User, x: Kept) -> Action
         return request(i, u, x);
     }
     if both(full, !c.won) {
-        return of_node(ARBITRATE, i);
+        return named(ARBITRATE, i, 0);
     }
-    of_node(RESET, 0)
+    named(RESET, 0, 0)
 }
 
 // The next action, where it is node i's turn.
@@ -148,7 +130,7 @@ pub fn choose(phase: Phase, concatenated: bool, i: u8, c: Cell, u: User, x: Kept
             signal,
             next: _,
         } => deliver(signal, u, x),
-        Phase::Granting => of_node(GRANT, 0),
-        Phase::Gapping(_) => of_node(GAP, 0),
+        Phase::Granting => named(GRANT, 0, 0),
+        Phase::Gapping(_) => named(GAP, 0, 0),
     }
 }

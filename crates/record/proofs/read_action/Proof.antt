@@ -4,9 +4,12 @@ use Rattle.record.specs.Layout.{actionAt}
 use Rattle.record.proofs.read_action.Statement.{statement}
 use Rattle.record.proofs.read_action.Tie as tie
 
+named-requires : tie.Need-named-requires
+named-requires c = search needs
+
 returns : tie.Need-returns
 unfolding actionAt
-returns c = simp (lt-ltb _ _ (c .if1 .taken))
+returns c = simp (lt-ltb _ _ (c .before .if1 .taken), c .named .ensures)
 
 shared-slice-read-t5 : tie.Need-shared-slice-read-t5
 shared-slice-read-t5 c = search needs
@@ -70,6 +73,7 @@ pub read-action-spec : {M : Type 1} → statement M
 read-action-spec =
     tie.close
     (tie.spec
+    named-requires
     returns
     shared-slice-read-t5
     shared-slice-read-t7
