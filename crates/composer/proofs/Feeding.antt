@@ -131,6 +131,7 @@ module _ (i n : ℕ) (l : List Action) (bytes : List ℕ) (c : Composer) (a : Af
   line-goes (L.Acts x k) fits = action-line x k fits
   line-goes (L.Actions k) fits = (refl, next-line)
   line-goes (L.User k u) fits = (refl, next-line)
+  line-goes (L.Finds q d) fits = (refl, next-line)
   line-goes (L.Wrong f) fits = (refl, next-line)
 
   fed : (t : List ℕ) → feedOf c t ≡ lineTaken next (lineOf Run t)

@@ -174,6 +174,7 @@ grows n l (L.Acts a k) = go (eqb n 0) (read n a)
     go false (D.Accepted v) = let times = length-replicate k a in length-append l (replicate k a) ∙ omega arith
 grows n l (L.Actions k) = tt
 grows n l (L.User i u) = tt
+grows n l (L.Finds q d) = tt
 grows n l (L.Wrong f) = tt
 
 abbrev Sums : ℕ → Meaning → Type 0

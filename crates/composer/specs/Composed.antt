@@ -5,7 +5,7 @@ use lib.ListN.{replicate}
 use Rattle.charts.specs.Records.{blank}
 use Rattle.notation.specs.declared.Text.the-variants.{Run}
 use Rattle.notation.specs.declared.Line.{Line}
-use Rattle.notation.specs.declared.Line.the-variants.{Blank, Nodes, Acts, Actions, Wrong}
+use Rattle.notation.specs.declared.Line.the-variants.{Blank, Nodes, Acts, Actions, Finds, Wrong}
 use Rattle.notation.specs.declared.Line.the-variants as L
 use Rattle.notation.specs.Grammar.{lineOf}
 use Rattle.notation.specs.Meaning.{linesOf, unmarked}
@@ -49,6 +49,7 @@ timesSaid (Nodes n) = 0
 timesSaid (Acts a k) = k
 timesSaid (Actions k) = 0
 timesSaid (L.User i u) = 0
+timesSaid (Finds q d) = 0
 timesSaid (Wrong f) = 0
 
 abbrev pub actionsIn : List (List ℕ) → ℕ

@@ -16,7 +16,7 @@ use Rattle.faults.specs.declared.Fault.{Fault}
 use Rattle.faults.specs.declared.Fault.the-variants.{UnknownWord, NodesMissing, NoAction, TooMany, Refused}
 use Rattle.notation.specs.declared.Text.the-variants.{Run}
 use Rattle.notation.specs.declared.Line.{Line}
-use Rattle.notation.specs.declared.Line.the-variants.{Blank, Nodes, Acts, Actions, Wrong}
+use Rattle.notation.specs.declared.Line.the-variants.{Blank, Nodes, Acts, Actions, Finds, Wrong}
 use Rattle.notation.specs.declared.Line.the-variants as L
 use Rattle.notation.specs.declared.Stage.{Stage}
 use Rattle.notation.specs.declared.Stage.the-variants.{Going, Stopped}
@@ -103,13 +103,14 @@ readTaken c a k (D.Accepted m) = toPut c a k
 unfoldable pub actionTaken : Composer → Action → ℕ → Composer
 actionTaken c a k = cond (eqb (c .n) 0) (stopped c NodesMissing) (readTaken c a k (read (c .n) a))
 
--- a run has no lines of settings
+-- a run has no lines of settings and no `find`
 unfoldable pub lineTaken : Composer → Line → Composer
 lineTaken c Blank = c
 lineTaken c (Nodes n) = nodesTaken c n
 lineTaken c (Acts a k) = actionTaken c a k
 lineTaken c (Actions k) = stopped c UnknownWord
 lineTaken c (L.User i u) = stopped c UnknownWord
+lineTaken c (Finds q d) = stopped c UnknownWord
 lineTaken c (Wrong f) = stopped c f
 
 -- a line fed to the composer. One that has stopped, or has still an action to put, takes none.

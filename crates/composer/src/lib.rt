@@ -140,6 +140,7 @@ fn take_line(c: Composer, said: Line) -> Composer
         Line::Acts(a, k) => take_action(c, a, k),
         Line::Actions(_) => stop(c, Fault::UnknownWord),
         Line::User(_, _) => stop(c, Fault::UnknownWord),
+        Line::Finds(_, _) => stop(c, Fault::UnknownWord),
         Line::Wrong(fault) => stop(c, fault),
     }
 }

@@ -25,6 +25,8 @@ faultWords F.NodesMissing = ascii "no nodes line"
 faultWords F.NodesAgain = ascii "a second nodes line"
 faultWords F.NoAction = ascii "no action"
 faultWords F.TooMany = ascii "too many actions"
+faultWords F.NoQuestion = ascii "no find line"
+faultWords F.AfterQuestion = ascii "a line after find"
 faultWords (F.Refused k) = ascii "refused " ++ decimal k
 
 -- "`\x` and two hexadecimal digits (`\xC2`)"
@@ -77,7 +79,8 @@ abbrev pub ofFirst : ℕ → ℕ → ℕ
 ofFirst place field = cond (eqb place 1) field 0
 
 -- which field stands at a place of an action's line (1 is the place after its first word; 0 is what follows a `*`), by its number: 0 is the count, 1 and 2 are header and data,
--- 14 is the number of actions, the others take a byte. The fields of settings go by the name before them: `actions`, `user`, `to`, `spell`, `fillers` are 18 to 22, `lose` is 6
+-- 14 is the number of actions, the others take a byte. The fields of settings go by the name before them: `actions`, `user`, `to`, `spell`, `fillers` are 18 to 22, `lose` is 6.
+-- `find` is 23: "`the depth of find`, also where `within` is missing"
 unfoldable pub fieldOf : ℕ → ℕ → ℕ
 fieldOf kind place =
     cond (eqb kind 1) (cond (eqb place 1) 3 (cond (eqb place 2) 4 (cond (eqb place 3) 1 (cond (eqb place 4) 2 (cond (eqb place 6) 11 0)))))
@@ -94,7 +97,8 @@ fieldOf kind place =
     (cond (eqb kind 20) (ofFirst place 16)
     (cond (eqb kind 21) (ofFirst place 17)
     (cond (eqb kind 22) (ofFirst place 18)
-    0)))))))))))))
+    (cond (eqb kind 23) (cond (eqb place 1) 20 (cond (eqb place 2) 21 22))
+    0))))))))))))))
 
 -- of settings "THE FIELD is `the number of nodes`, `the number of actions`, […] or `the period of user`"
 unfoldable pub settingWords : ℕ → List ℕ
@@ -105,6 +109,13 @@ settingWords field =
     (cond (eqb field 17) (ascii "the spell of user")
     (cond (eqb field 18) (ascii "the fillers of user")
     (ascii "the period of user")))))
+
+-- of a question "`the report of find`, `the node of find`, or `the depth of find`"
+unfoldable pub questionWords : ℕ → List ℕ
+questionWords field =
+    cond (eqb field 20) (ascii "the report of find")
+    (cond (eqb field 21) (ascii "the node of find")
+    (ascii "the depth of find"))
 
 -- "THE FIELD is `the node of clock`, […] or for what follows a `*` `the count after *`."
 unfoldable pub fieldWords : ℕ → List ℕ
@@ -123,7 +134,8 @@ fieldWords field =
     (cond (eqb field 11) (ascii "the label of request")
     (cond (eqb field 12) (ascii "the node of ask")
     (cond (eqb field 13) (ascii "the node of decide")
-    (settingWords field))))))))))))))
+    (cond (ltb field 20) (settingWords field)
+    (questionWords field)))))))))))))))
 
 -- "`, at most ` 255 or 4294967295"; of settings "255 or 65535"
 abbrev pub mostWords : ℕ → List ℕ
@@ -133,9 +145,13 @@ mostWords field = cond (ltb field 3) (ascii ", at most 4294967295") (cond (eqb f
 abbrev pub wordOf : List ℕ → ℕ → List ℕ
 wordOf w field = ascii ": " ++ (quoted w ++ (ascii ", " ++ fieldWords field))
 
+-- "STATEMENT `: a bus has 2 to 63 nodes`", and so for what is not open and what is too deep
+abbrev pub saidOf : List ℕ → List ℕ → List ℕ
+saidOf w what = ascii ": " ++ (shown w ++ what)
+
 -- "STATEMENT `: no node ` the node", and so for an address, a label and an acknowledgement
 abbrev pub noneOf : List ℕ → List ℕ → ℕ → List ℕ
-noneOf w what x = ascii ": " ++ (shown w ++ (what ++ decimal x))
+noneOf w what x = saidOf w what ++ decimal x
 
 -- the table's second column, w being the WORD or STATEMENT
 unfoldable pub causeWords : Cause → List ℕ → List ℕ
@@ -144,11 +160,13 @@ causeWords C.Quoted w = ascii ": " ++ quoted w
 causeWords (C.Field kind place) w = wordOf w (fieldOf kind place)
 causeWords (C.Large kind place) w = wordOf w (fieldOf kind place) ++ mostWords (fieldOf kind place)
 causeWords (C.Missing kind place) w = ascii ": " ++ fieldWords (fieldOf kind place)
-causeWords C.Size w = ascii ": " ++ (shown w ++ ascii ": a bus has 2 to 63 nodes")
+causeWords C.Size w = saidOf w (ascii ": a bus has 2 to 63 nodes")
 causeWords (C.Node node n) w = noneOf w (ascii ": no node ") node ++ (ascii ", nodes are 0 to " ++ decimal (n - 1))
 causeWords (C.Address address n) w = noneOf w (ascii ": no address ") address ++ (ascii ", addresses are 0 to " ++ (decimal (n - 1) ++ ascii " and all"))
 causeWords (C.Label label) w = noneOf w (ascii ": no label ") label ++ ascii ", labels are 0 to 63"
 causeWords (C.Ack ack) w = noneOf w (ascii ": no acknowledgement ") ack ++ ascii ", they are 0 to 15"
+causeWords C.Closed w = saidOf w (ascii ": not open when its turn comes")
+causeWords C.Depth w = saidOf w (ascii ": a route has at most 6 actions, on a bus of at most 8 nodes")
 
 -- "`line K: `, what is wrong […] and, where more can be said, a colon, a space and the cause"
 unfoldable pub faultLine : ℕ → Fault → Cause → List ℕ → List ℕ

@@ -20,6 +20,8 @@ pub enum Fault {
     NodesAgain,
     NoAction,
     TooMany,
+    NoQuestion,
+    AfterQuestion,
     Refused(u8),
 }
 
@@ -29,8 +31,8 @@ pub enum Cause {
     Plain,
     // The word is the cause.
     Quoted,
-    // The word and its field: of a run the name of the line's first word (an action's kind, or 13 for `nodes`) and the word's place in the line (the first
-    // word has 0, and so has what follows a `*`); of settings the name that stands before the word, and 1.
+    // The word and its field: of a run or a question the name of the line's first word (an action's kind, 13 for `nodes`, 23 for `find`) and the word's place in
+    // the line (the first word has 0, and so has what follows a `*`); of settings the name that stands before the word, and 1.
     Field(u8, u8),
     // The same, with the largest number that the field takes.
     Large(u8, u8),
@@ -46,6 +48,10 @@ pub enum Cause {
     Label(u8),
     // No such acknowledgement.
     Ack(u8),
+    // An action that is not open.
+    Closed,
+    // A search too deep, or on too many nodes.
+    Depth,
 }
 
 const LONGEST: usize = 512;

@@ -1,11 +1,10 @@
 // A fault's line put into a buffer from a place on. Each function answers the place after what it put.
 ghost use mathlib.Core.Path.{_≡_};
-ghost use mathlib.Core.List.{[], _∷_};
 ghost use Prim.Native.Nat.{_+_, _-_, _*_, _<_, _≤_};
 ghost use lib.ListN.{length, take, drop};
 ghost use Rattle.transcript.specs.Room.{Puts};
 ghost use Rattle.faults.specs.Faults.{faultWords, hexDigit, escaped, shownByte, shownBytes, shown, hasHere, has, hint, quoted};
-ghost use Rattle.faults.specs.Faults.{ofFirst, fieldOf, settingWords, fieldWords, mostWords, wordOf, noneOf, causeWords, faultLine};
+ghost use Rattle.faults.specs.Faults.{ofFirst, fieldOf, settingWords, questionWords, fieldWords, mostWords, wordOf, saidOf, noneOf, causeWords, faultLine};
 use crate::Cause;
 use crate::Fault;
 use crate::write;
@@ -34,6 +33,8 @@ fn put_fault_words(buf: &mut [u8], at: usize, fault: Fault) -> usize
         Fault::NodesAgain => write::put_word(buf, at, b"a second nodes line"),
         Fault::NoAction => write::put_word(buf, at, b"no action"),
         Fault::TooMany => write::put_word(buf, at, b"too many actions"),
+        Fault::NoQuestion => write::put_word(buf, at, b"no find line"),
+        Fault::AfterQuestion => write::put_word(buf, at, b"a line after find"),
         Fault::Refused(k) => {
             let b = write::put_word(buf, at, b"refused ");
             write::put_u8(buf, b, k)
@@ -211,6 +212,11 @@ fn field_of(kind: u8, place: u8) -> u8
         20 => of_first(place, 16),
         21 => of_first(place, 17),
         22 => of_first(place, 18),
+        23 => match place {
+            1 => 20,
+            2 => 21,
+            _ => 22,
+        },
         _ => 0,
     }
 }
@@ -228,6 +234,19 @@ fn put_setting(buf: &mut [u8], at: usize, field: u8) -> usize
         17 => write::put_word(buf, at, b"the spell of user"),
         18 => write::put_word(buf, at, b"the fillers of user"),
         _ => write::put_word(buf, at, b"the period of user"),
+    }
+}
+
+// A field that questions alone have.
+fn put_question(buf: &mut [u8], at: usize, field: u8) -> usize
+    requires { ⌜ at + 32 ≤ length (now buf) ⌝ }
+    ensures { λ r. ⌜ r ≤ at + 32 ⌝ }
+    ensures { λ r. ⌜ Puts (now (buf .entry)) at (questionWords field) r (now (buf .exit)) ⌝ }
+{
+    match field {
+        20 => write::put_word(buf, at, b"the report of find"),
+        21 => write::put_word(buf, at, b"the node of find"),
+        _ => write::put_word(buf, at, b"the depth of find"),
     }
 }
 
@@ -251,7 +270,12 @@ fn put_field(buf: &mut [u8], at: usize, field: u8) -> usize
         11 => write::put_word(buf, at, b"the label of request"),
         12 => write::put_word(buf, at, b"the node of ask"),
         13 => write::put_word(buf, at, b"the node of decide"),
-        _ => put_setting(buf, at, field),
+        _ => {
+            if field < 20 {
+                return put_setting(buf, at, field);
+            }
+            put_question(buf, at, field)
+        }
     }
 }
 
@@ -281,16 +305,25 @@ fn put_word_of(buf: &mut [u8], at: usize, w: &[u8], field: u8) -> usize
     put_field(buf, d, field)
 }
 
+// A line and what is said of it.
+fn put_said(buf: &mut [u8], at: usize, w: &[u8], what: &[u8]) -> usize
+    requires { ⌜ at + 260 + length (now what) ≤ length (now buf) ⌝ }
+    ensures { λ r. ⌜ r ≤ at + 260 + length (now (what .entry)) ⌝ }
+    ensures { λ r. ⌜ Puts (now (buf .entry)) at (saidOf (now (w .entry)) (now (what .entry))) r (now (buf .exit)) ⌝ }
+{
+    let b = write::put_word(buf, at, b": ");
+    let c = put_shown(buf, b, w);
+    write::put_word(buf, c, what)
+}
+
 // A line and what it has that there is none of.
 fn put_none(buf: &mut [u8], at: usize, w: &[u8], what: &[u8], x: u8) -> usize
     requires { ⌜ at + 263 + length (now what) ≤ length (now buf) ⌝ }
     ensures { λ r. ⌜ r ≤ at + 263 + length (now (what .entry)) ⌝ }
     ensures { λ r. ⌜ Puts (now (buf .entry)) at (noneOf (now (w .entry)) (now (what .entry)) x) r (now (buf .exit)) ⌝ }
 {
-    let b = write::put_word(buf, at, b": ");
-    let c = put_shown(buf, b, w);
-    let d = write::put_word(buf, c, what);
-    write::put_u8(buf, d, x)
+    let b = put_said(buf, at, w, what);
+    write::put_u8(buf, b, x)
 }
 
 // The last of n.
@@ -321,11 +354,7 @@ fn put_cause(buf: &mut [u8], at: usize, cause: Cause, w: &[u8]) -> usize
             let b = write::put_word(buf, at, b": ");
             put_field(buf, b, field_of(kind, place))
         }
-        Cause::Size => {
-            let b = write::put_word(buf, at, b": ");
-            let c = put_shown(buf, b, w);
-            write::put_word(buf, c, b": a bus has 2 to 63 nodes")
-        }
+        Cause::Size => put_said(buf, at, w, b": a bus has 2 to 63 nodes"),
         Cause::Node(node, n) => {
             let b = put_none(buf, at, w, b": no node ", node);
             let c = write::put_word(buf, b, b", nodes are 0 to ");
@@ -345,6 +374,13 @@ fn put_cause(buf: &mut [u8], at: usize, cause: Cause, w: &[u8]) -> usize
             let b = put_none(buf, at, w, b": no acknowledgement ", ack);
             write::put_word(buf, b, b", they are 0 to 15")
         }
+        Cause::Closed => put_said(buf, at, w, b": not open when its turn comes"),
+        Cause::Depth => put_said(
+            buf,
+            at,
+            w,
+            b": a route has at most 6 actions, on a bus of at most 8 nodes",
+        ),
     }
 }
 

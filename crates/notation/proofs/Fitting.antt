@@ -13,14 +13,14 @@ use Rattle.record.specs.Layout.{Fits}
 use Rattle.runfile.proofs.Loops.{and-right}
 use Rattle.faults.specs.declared.Fault.the-variants.{UnknownWord, TooLarge, ExtraField, NoRepeat, LongLine}
 use Rattle.notation.specs.declared.Text.{Text}
-use Rattle.notation.specs.declared.Text.the-variants.{Run, Settings}
+use Rattle.notation.specs.declared.Text.the-variants.{Run, Settings, Question}
 use Rattle.notation.specs.declared.Line.{Line}
-use Rattle.notation.specs.declared.Line.the-variants.{Blank, Nodes, Acts, Actions, Wrong}
+use Rattle.notation.specs.declared.Line.the-variants.{Blank, Nodes, Acts, Actions, Finds, Wrong}
 use Rattle.notation.specs.declared.Line.the-variants as L
 use Rattle.notation.specs.declared.words.Token.{Token}
 use Rattle.notation.specs.declared.words.Token.the-variants.{Word, Number, Large}
 use Rattle.notation.specs.Words as W
-use Rattle.notation.specs.Grammar.{Part, got, bad, after, isWord, byte, long, numeral, numberIn, addressAt, addressIn, addressOrNone, optionIn, saidIn, toIn, holdIn, lastOf, timesOf, repeatOf, endingOf, recordOf, requestOf, nodeOf, respondOf, changeOf, actionOf, nodesThen, nodesOf, short, actionsThen, actionsOf, userOf, restOf, namedOf, saidBy, lineOf}
+use Rattle.notation.specs.Grammar.{Part, got, bad, after, isWord, byte, long, numeral, numberIn, addressAt, addressIn, addressOrNone, optionIn, saidIn, toIn, holdIn, lastOf, timesOf, repeatOf, endingOf, recordOf, requestOf, nodeOf, respondOf, changeOf, actionOf, nodesThen, nodesOf, short, actionsThen, actionsOf, userOf, isReport, reportIn, depthIn, findOf, runOf, restOf, namedOf, saidBy, lineOf}
 
 abbrev pub Fitting : Line → Type 0
 Fitting Blank = Unit
@@ -28,6 +28,7 @@ Fitting (Nodes n) = Unit
 Fitting (Acts a k) = Fits a
 Fitting (Actions n) = Unit
 Fitting (L.User i u) = Unit
+Fitting (Finds q d) = Unit
 Fitting (Wrong f) = Unit
 
 either : (b : Bool) (x y : Line) → (b ≡ true → Fitting x) → Fitting y → Fitting (cond b x y)
@@ -168,10 +169,36 @@ user-fitting l =
     then-fitting byte (saidIn W.lose l5) _ (option-most W.lose (numberIn byte) l5 (number-most byte)) λ period l6 p.
     last-fitting _ l6 tt
 
+-- nor does the line that asks
+report-most : (l : List Token) → AtMost byte (reportIn l)
+unfolding reportIn
+report-most [] = tt
+report-most (Word k ∷ l) =
+    either-field byte (isReport k) _ _ (λ e. let small = leb-true k W.broad (and-right (ltb W.within k) _ e) in omega arith) tt
+report-most (Number x ∷ l) = tt
+report-most (Large ∷ l) = tt
+
+depth-most : (l : List Token) → AtMost byte (depthIn l)
+unfolding depthIn
+depth-most [] = tt
+depth-most (t ∷ l) = either-field byte (isWord W.within t) _ _ (λ e. number-most byte l) tt
+
+find-fitting : (l : List Token) → Fitting (findOf l)
+unfolding findOf
+find-fitting l =
+    then-fitting byte (reportIn l) _ (report-most l) λ word l1 w.
+    then-fitting byte (numberIn byte l1) _ (number-most byte l1) λ node l2 n.
+    then-fitting byte (depthIn l2) _ (depth-most l2) λ depth l3 d.
+    last-fitting _ l3 tt
+
+run-fitting : (k : ℕ) (l : List Token) → Fitting (runOf k l)
+run-fitting k l = either (isKind k) (actionOf k l) (Wrong UnknownWord) (λ e. let small = ltb-true k 13 (and-right (ltb 0 k) _ e) in action-fitting k l (omega arith)) tt
+
 rest-fitting : (text : Text) (k : ℕ) (l : List Token) → Fitting (restOf text k l)
 unfolding restOf
-rest-fitting Run k l = either (isKind k) (actionOf k l) (Wrong UnknownWord) (λ e. let small = ltb-true k 13 (and-right (ltb 0 k) _ e) in action-fitting k l (omega arith)) tt
+rest-fitting Run k l = run-fitting k l
 rest-fitting Settings k l = either (eqb k W.actions) (actionsOf l) _ (λ e. actions-fitting l) (either (eqb k W.user) (userOf l) (Wrong UnknownWord) (λ e. user-fitting l) tt)
+rest-fitting Question k l = either (eqb k W.find) (findOf l) (runOf k l) (λ e. find-fitting l) (run-fitting k l)
 
 named-fitting : (text : Text) (k : ℕ) (l : List Token) → Fitting (namedOf text k l)
 unfolding namedOf

@@ -8,3 +8,4 @@ pub mod Marks
 pub mod Users
 pub mod Readers
 pub mod Told
+pub mod Questions

@@ -25,7 +25,7 @@ differ (b ∷ l) (c ∷ m) h = rw (differ l m (λ e. h (ap suc e))) (and-false (
 pub above : (m : ℕ) {k : ℕ} → m ≤ k → (k ≡ m → ⊥) → suc m ≤ k
 above m h e = omega arith
 
-pub only-last : {k : ℕ} → 21 ≤ k → k < 22 → k ≡ 21
+pub only-last : {k : ℕ} → 32 ≤ k → k < 33 → k ≡ 32
 only-last g h = omega arith
 
 -- past the end of a word

@@ -10,9 +10,9 @@ use Rattle.faults.specs.declared.Fault.the-variants as F
 use Rattle.faults.specs.declared.Cause.{Cause}
 use Rattle.faults.specs.declared.Cause.the-variants as C
 use Rattle.notation.specs.declared.Text.{Text}
-use Rattle.notation.specs.declared.Text.the-variants.{Run, Settings}
+use Rattle.notation.specs.declared.Text.the-variants.{Run, Settings, Question}
 use Rattle.notation.specs.declared.Line.{Line}
-use Rattle.notation.specs.declared.Line.the-variants.{Blank, Nodes, Acts, Actions, Wrong}
+use Rattle.notation.specs.declared.Line.the-variants.{Blank, Nodes, Acts, Actions, Finds, Wrong}
 use Rattle.notation.specs.declared.Line.the-variants as L
 use Rattle.notation.specs.declared.Blamed.{Blamed}
 use Rattle.notation.specs.declared.words.Token.{Token}
@@ -36,6 +36,8 @@ isMissing F.NodesMissing = false
 isMissing F.NodesAgain = false
 isMissing F.NoAction = false
 isMissing F.TooMany = false
+isMissing F.NoQuestion = false
+isMissing F.AfterQuestion = false
 isMissing (F.Refused k) = false
 
 -- "wrong already", whatever follows: what misses a field may still get it
@@ -45,6 +47,7 @@ isWrong (Nodes n) = false
 isWrong (Acts a k) = false
 isWrong (Actions n) = false
 isWrong (L.User i u) = false
+isWrong (Finds q d) = false
 isWrong (Wrong f) = not (isMissing f)
 
 -- a word ends with the byte at a place: that is no blank, and the line ends after it or a blank follows
@@ -109,11 +112,16 @@ refusalOf n k (Acts a t) =
     (cond (eqb k N.wrong-address) (C.Address (a .address) n)
     (cond (eqb k N.wrong-label) (C.Label (a .label))
     (cond (eqb k N.wrong-answer) (C.Ack (a .ack))
-    C.Plain)))
+    (cond (eqb k N.not-open) C.Closed
+    C.Plain))))
 refusalOf n k (Actions x) = C.Plain
 refusalOf n k (L.User i u) =
     cond (eqb k N.wrong-node) (C.Node i n)
     (cond (eqb k N.wrong-address) (C.Address (u .address) n)
+    C.Plain)
+refusalOf n k (Finds q d) =
+    cond (eqb k N.too-deep) C.Depth
+    (cond (eqb k N.wrong-node) (C.Node (q .node) n)
     C.Plain)
 refusalOf n k (Wrong f) = C.Plain
 
@@ -127,16 +135,21 @@ lastWord line to = take (to - afterLast M.Space line to) (drop (afterLast M.Spac
 abbrev pub nameBefore : List ℕ → ℕ → ℕ
 nameBefore line i = nameOf (lastWord line (afterLast M.Text line i))
 
--- the field that begins at byte i is named in a run by the line's first word and the field's place, in settings by the word that stands before it
+-- the field that begins at byte i is named in a run and a question by the line's first word and the field's place, in settings by the word that stands before it
 unfoldable pub namedAt : Text → List ℕ → ℕ → ℕ
 namedAt Run line i = kindOf line
 namedAt Settings line i = nameBefore line i
+namedAt Question line i = kindOf line
 
 -- that place: how many words stand before it, or 0 for "what follows a `*`". (That is so where the last byte of text before i is a `*`: a longer word that ends in one is wrong
 -- already, and is itself to blame.)
+unfoldable pub placeInLine : List ℕ → ℕ → ℕ
+placeInLine line i = cond (eqb (afterLast M.Star line i) (afterLast M.Text line i)) 0 (wordsBefore line i)
+
 unfoldable pub placeAt : Text → List ℕ → ℕ → ℕ
-placeAt Run line i = cond (eqb (afterLast M.Star line i) (afterLast M.Text line i)) 0 (wordsBefore line i)
+placeAt Run line i = placeInLine line i
 placeAt Settings line i = 1
+placeAt Question line i = placeInLine line i
 
 -- the cause by the table of "What can be wrong", for a line without its comment
 unfoldable pub blameIn : Text → ℕ → List ℕ → Fault → Blamed
@@ -151,6 +164,8 @@ blameIn text n line F.NodesMissing = blamed C.Plain (span 0 0)
 blameIn text n line F.NodesAgain = blamed C.Plain (span 0 0)
 blameIn text n line F.NoAction = blamed C.Plain (span 0 0)
 blameIn text n line F.TooMany = blamed C.Plain (span 0 0)
+blameIn text n line F.NoQuestion = blamed C.Plain (span 0 0)
+blameIn text n line F.AfterQuestion = blamed C.Plain (span 0 0)
 blameIn text n line (F.Refused k) = blamed (refusalOf n k (lineOf text line)) (statementIn line)
 
 -- a line over 255 bytes is only too long

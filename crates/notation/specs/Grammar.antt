@@ -1,13 +1,16 @@
--- One line of a run or of settings in plain words: its productions, over the words of the line.
-use mathlib.Core.Bool.{Bool, false, cond, not}
+-- One line of a run, of settings or of a question in plain words: its productions, over the words of the line.
+use mathlib.Core.Bool.{Bool, false, cond, not, _&&_}
 use mathlib.Core.List.{List, [], _∷_}
-use Prim.Native.Nat.{ℕ, _≤_}
+use Prim.Native.Nat.{ℕ, _-_, _≤_}
 use lib.Dec.{eqb, ltb, leb}
 use lib.ListN.{length}
 use Rattle.charts.specs.declared.Action.{Action}
 use Rattle.charts.specs.declared.User.{User}
+use Rattle.charts.specs.declared.Word as Report
+use Rattle.charts.specs.declared.Word.the-variants as R
 use Rattle.charts.specs.Records.{isKind}
 use Rattle.charts.specs.Signals.{everybody}
+use Rattle.charts.specs.Words as N
 use Rattle.notation.specs.declared.words.Token.{Token}
 use Rattle.notation.specs.declared.words.Token.the-variants.{Word, Number, Large}
 use Rattle.notation.specs.declared.grammar.Field.{Field}
@@ -15,9 +18,9 @@ use Rattle.notation.specs.declared.grammar.Field.the-variants as F
 use Rattle.faults.specs.declared.Fault.{Fault}
 use Rattle.faults.specs.declared.Fault.the-variants.{UnknownWord, NotNumber, TooLarge, MissingField, ExtraField, NoRepeat, LongLine}
 use Rattle.notation.specs.declared.Text.{Text}
-use Rattle.notation.specs.declared.Text.the-variants.{Run, Settings}
+use Rattle.notation.specs.declared.Text.the-variants.{Run, Settings, Question}
 use Rattle.notation.specs.declared.Line.{Line}
-use Rattle.notation.specs.declared.Line.the-variants.{Blank, Nodes, Acts, Actions, Wrong}
+use Rattle.notation.specs.declared.Line.the-variants.{Blank, Nodes, Acts, Actions, Finds, Wrong}
 use Rattle.notation.specs.declared.Line.the-variants as L
 use Rattle.notation.specs.Words as W
 use Rattle.notation.specs.Cursors.{tokensLeft}
@@ -190,10 +193,53 @@ userOf l =
     after (saidIn W.lose l5) λ period l6.
     lastOf (L.User node (userWith address spell fillers hold period)) l6
 
--- a line by its first word: of a run "blank | nodes | action", of settings "blank | nodes | actions | user"
+-- "WORD = "won" | "lost" | […] | "drop"": the names after `within`. The value is the report's number
+abbrev pub isReport : ℕ → Bool
+isReport k = ltb W.within k && leb k W.broad
+
+abbrev pub reportAt : Token → List Token → Part
+reportAt (Word k) l = cond (isReport k) (got (k - W.within) l) (bad UnknownWord)
+reportAt (Number x) l = bad UnknownWord
+reportAt Large l = bad UnknownWord
+
+unfoldable pub reportIn : List Token → Part
+reportIn [] = bad MissingField
+reportIn (t ∷ l) = reportAt t l
+
+-- the report with a number
+unfoldable pub wordNumbered : ℕ → Report.Word
+wordNumbered x =
+    cond (eqb x N.won) R.Won
+    (cond (eqb x N.lost) R.Lost
+    (cond (eqb x N.sent) R.Sent
+    (cond (eqb x N.acked) R.Ack
+    (cond (eqb x N.miss) R.Miss
+    (cond (eqb x N.drop) R.Drop
+    (cond (eqb x N.good) R.Good
+    (cond (eqb x N.dcrc) R.Dcrc
+    R.Broad)))))))
+
+-- ""within" DEPTH": "something other than `within` after the node" is an unknown word
+unfoldable pub depthIn : List Token → Part
+depthIn [] = bad MissingField
+depthIn (t ∷ l) = cond (isWord W.within t) (numberIn byte l) (bad UnknownWord)
+
+-- "find = "find" WORD NODE "within" DEPTH"
+unfoldable pub findOf : List Token → Line
+findOf l =
+    after (reportIn l) λ word l1.
+    after (numberIn byte l1) λ node l2.
+    after (depthIn l2) λ depth l3.
+    lastOf (Finds (record { word = wordNumbered word; node = node }) depth) l3
+
+-- a line by its first word: of a run "blank | nodes | action", of settings "blank | nodes | actions | user", of a question that of a run or `find`
+abbrev pub runOf : ℕ → List Token → Line
+runOf k l = cond (isKind k) (actionOf k l) (Wrong UnknownWord)
+
 unfoldable pub restOf : Text → ℕ → List Token → Line
-restOf Run k l = cond (isKind k) (actionOf k l) (Wrong UnknownWord)
+restOf Run k l = runOf k l
 restOf Settings k l = cond (eqb k W.actions) (actionsOf l) (cond (eqb k W.user) (userOf l) (Wrong UnknownWord))
+restOf Question k l = cond (eqb k W.find) (findOf l) (runOf k l)
 
 unfoldable pub namedOf : Text → ℕ → List Token → Line
 namedOf text k l = cond (eqb k W.nodes) (nodesOf l) (restOf text k l)

@@ -16,7 +16,7 @@ use Rattle.faults.specs.declared.Fault.{Fault}
 use Rattle.faults.specs.declared.Fault.the-variants.{UnknownWord, NodesMissing, NoAction, Refused}
 use Rattle.notation.specs.declared.Text.the-variants.{Run}
 use Rattle.notation.specs.declared.Line.{Line}
-use Rattle.notation.specs.declared.Line.the-variants.{Blank, Nodes, Acts, Actions, Wrong}
+use Rattle.notation.specs.declared.Line.the-variants.{Blank, Nodes, Acts, Actions, Finds, Wrong}
 use Rattle.notation.specs.declared.Line.the-variants as L
 use Rattle.notation.specs.declared.Stage.{Stage}
 use Rattle.notation.specs.declared.Stage.the-variants.{Going, Stopped}
@@ -59,13 +59,14 @@ abbrev pub nodesOn : ℕ → List Action → Stage → Said
 nodesOn m l Going = on m l
 nodesOn m l (Stopped f) = off f
 
--- a run has no lines of settings: "The first word is no action and not `nodes`"
+-- a run has no lines of settings and no `find`: "The first word is no action and not `nodes`"
 abbrev pub lineOn : ℕ → List Action → Line → Said
 lineOn n l Blank = on n l
 lineOn n l (Nodes m) = nodesOn m l (nodesStage n m)
 lineOn n l (Acts a k) = cond (eqb n 0) (off NodesMissing) (readOn n l a k (read n a))
 lineOn n l (Actions k) = off UnknownWord
 lineOn n l (L.User i u) = off UnknownWord
+lineOn n l (Finds q d) = off UnknownWord
 lineOn n l (Wrong f) = off f
 
 -- "no `nodes` line, no action": told of the last line

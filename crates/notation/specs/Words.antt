@@ -40,12 +40,14 @@ same [] (c ∷ m) = false
 same (b ∷ l) [] = false
 same (b ∷ l) (c ∷ m) = eqb b c && same l m
 
--- document 01's words of the ten kinds and the two of request 6, in the order of the kinds; then the five other words of runs, and the five that settings alone have
+-- document 01's words of the ten kinds and the two of request 6, in the order of the kinds; then the five other words of runs, the five that settings alone have, and the eleven
+-- that questions alone have: `find`, `within` and the words of the reports, in the order of their numbers
 abbrev pub names : List (List ℕ)
 names =
     ascii "request" ∷ ascii "arbitrate" ∷ ascii "respond" ∷ ascii "clock" ∷ ascii "pass" ∷ ascii "lose" ∷ ascii "change" ∷ ascii "grant" ∷ ascii "gap"
     ∷ ascii "reset" ∷ ascii "ask" ∷ ascii "decide" ∷ ascii "nodes" ∷ ascii "all" ∷ ascii "hold" ∷ ascii "*" ∷ ascii "label" ∷ ascii "actions"
-    ∷ ascii "user" ∷ ascii "to" ∷ ascii "spell" ∷ ascii "fillers" ∷ []
+    ∷ ascii "user" ∷ ascii "to" ∷ ascii "spell" ∷ ascii "fillers" ∷ ascii "find" ∷ ascii "within" ∷ ascii "won" ∷ ascii "lost" ∷ ascii "sent"
+    ∷ ascii "ack" ∷ ascii "miss" ∷ ascii "drop" ∷ ascii "good" ∷ ascii "dcrc" ∷ ascii "broad" ∷ []
 
 abbrev pub lose : ℕ
 lose = 6
@@ -79,6 +81,15 @@ spell = 21
 
 abbrev pub fillers : ℕ
 fillers = 22
+
+abbrev pub find : ℕ
+find = 23
+
+abbrev pub within : ℕ
+within = 24
+
+abbrev pub broad : ℕ
+broad = 33
 
 -- the place of a word among names of which the first has place k; 0 for an unknown word
 abbrev pub placeIn : ℕ → List (List ℕ) → List ℕ → ℕ

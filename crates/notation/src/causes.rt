@@ -3,7 +3,7 @@ ghost use mathlib.Core.Path.{_≡_};
 ghost use Prim.Native.Nat.{_<_, _≤_};
 ghost use lib.ListN.{length};
 ghost use Rattle.notation.specs.Blame.{isMissing, isWrong, endsWith, isAt, firstIn, afterLast, wordsBefore};
-ghost use Rattle.notation.specs.Blame.{wordIn, statementIn, kindOf, refusalOf, span, nameBefore, namedAt, placeAt, blamed, blameIn};
+ghost use Rattle.notation.specs.Blame.{wordIn, statementIn, kindOf, refusalOf, span, nameBefore, namedAt, placeInLine, placeAt, blamed, blameIn};
 use crate::Blamed;
 use crate::Line;
 use crate::Text;
@@ -20,7 +20,11 @@ const WRONG_ADDRESS: u8 = 5;
 
 const WRONG_ANSWER: u8 = 6;
 
+const NOT_OPEN: u8 = 7;
+
 const WRONG_LABEL: u8 = 13;
+
+const TOO_DEEP: u8 = 14;
 
 // What is looked for in a line: a comment's `#`, a blank, a byte of a word, a `*`, the last byte of a word with which the line is wrong already as one
 // of that text.
@@ -53,6 +57,8 @@ fn is_missing(fault: Fault) -> bool
         Fault::NodesAgain => false,
         Fault::NoAction => false,
         Fault::TooMany => false,
+        Fault::NoQuestion => false,
+        Fault::AfterQuestion => false,
         Fault::Refused(_) => false,
     }
 }
@@ -66,6 +72,7 @@ fn is_wrong(said: Line) -> bool
         Line::Acts(_, _) => false,
         Line::Actions(_) => false,
         Line::User(_, _) => false,
+        Line::Finds(_, _) => false,
         Line::Wrong(fault) => !is_missing(fault),
     }
 }
@@ -217,6 +224,9 @@ fn refusal(n: u8, k: u8, said: Line) -> Cause
             if k == WRONG_ANSWER {
                 return Cause::Ack(a.ack);
             }
+            if k == NOT_OPEN {
+                return Cause::Closed;
+            }
             Cause::Plain
         }
         Line::Actions(_) => Cause::Plain,
@@ -226,6 +236,15 @@ fn refusal(n: u8, k: u8, said: Line) -> Cause
             }
             if k == WRONG_ADDRESS {
                 return Cause::Address(u.address, n);
+            }
+            Cause::Plain
+        }
+        Line::Finds(q, _) => {
+            if k == TOO_DEEP {
+                return Cause::Depth;
+            }
+            if k == WRONG_NODE {
+                return Cause::Node(q.node, n);
             }
             Cause::Plain
         }
@@ -271,23 +290,32 @@ fn named_at(text: Text, line: &[u8], i: usize) -> u8
     match text {
         Text::Run => kind_of(line),
         Text::Settings => name_before(line, i),
+        Text::Question => kind_of(line),
     }
 }
 
-// The place of the field that begins at `i`; 0 for what follows a `*`.
+// How many words stand before `i`; 0 for what follows a `*`.
+fn place_in_line(line: &[u8], i: usize) -> u8
+    requires { ⌜ length (now line) ≤ 255 ⌝ }
+    requires { ⌜ i ≤ length (now line) ⌝ }
+    ensures { λ r. ⌜ r ≡ placeInLine (now (line .entry)) i ⌝ }
+{
+    if after_last(Mark::Star, line, i) == after_last(Mark::Text, line, i) {
+        return 0;
+    }
+    words_before(line, i) as u8
+}
+
+// The place by which the field is told that begins at `i`.
 fn place_at(text: Text, line: &[u8], i: usize) -> u8
     requires { ⌜ length (now line) ≤ 255 ⌝ }
     requires { ⌜ i ≤ length (now line) ⌝ }
     ensures { λ r. ⌜ r ≡ placeAt text (now (line .entry)) i ⌝ }
 {
     match text {
-        Text::Run => {
-            if after_last(Mark::Star, line, i) == after_last(Mark::Text, line, i) {
-                return 0;
-            }
-            words_before(line, i) as u8
-        }
+        Text::Run => place_in_line(line, i),
         Text::Settings => 1,
+        Text::Question => place_in_line(line, i),
     }
 }
 
@@ -320,6 +348,8 @@ pub(crate) fn blame_in(text: Text, n: u8, line: &[u8], fault: Fault) -> Blamed
         Fault::NodesAgain => nowhere(Cause::Plain),
         Fault::NoAction => nowhere(Cause::Plain),
         Fault::TooMany => nowhere(Cause::Plain),
+        Fault::NoQuestion => nowhere(Cause::Plain),
+        Fault::AfterQuestion => nowhere(Cause::Plain),
         Fault::Refused(k) => {
             let said = crate::parse_line(text, line);
             at_span(refusal(n, k, said), statement_in(line))

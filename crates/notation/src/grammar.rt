@@ -1,12 +1,12 @@
 // The productions of a line. Each reads on from a cursor.
 ghost use mathlib.Core.Path.{_≡_};
 ghost use Rattle.charts.specs.Records.{isKind};
-ghost use Rattle.notation.specs.declared.Text.the-variants.{Run, Settings};
+ghost use Rattle.notation.specs.declared.Text.the-variants as T;
 ghost use Rattle.notation.specs.Words.{tokensOf};
 ghost use Rattle.notation.specs.Cursors.{tokensLeft};
 ghost use Rattle.notation.specs.Grammar.{seen, faultOf, fieldFits, isWord, numeral, numberIn, addressAt, addressIn, addressOrNone, saidIn, toIn, holdIn};
 ghost use Rattle.notation.specs.Grammar.{lastOf, repeatOf, endingOf, recordOf, requestOf, nodeOf, respondOf, changeOf, actionOf, nodesOf};
-ghost use Rattle.notation.specs.Grammar.{actionsOf, userWith, userOf, restOf, namedOf, saidBy};
+ghost use Rattle.notation.specs.Grammar.{actionsOf, userWith, userOf, isReport, reportAt, reportIn, wordNumbered, depthIn, findOf, runOf, restOf, namedOf, saidBy};
 use crate::Line;
 use crate::Text;
 use crate::words;
@@ -14,7 +14,9 @@ use crate::words::Cursor;
 use crate::words::Step;
 use crate::words::Token;
 use charts::Action;
+use charts::Question;
 use charts::User;
+use charts::Word;
 use faults::Fault;
 
 const BYTE: u32 = 255;
@@ -407,9 +409,100 @@ fn user(line: &[u8], c: Cursor) -> Line
     last(line, Line::User(node as u8, u), after_period)
 }
 
+fn is_report(k: u8) -> bool
+    ensures { λ r. ⌜ r ≡ isReport k ⌝ }
+{
+    if words::WITHIN < k {
+        return k <= words::BROAD;
+    }
+    false
+}
+
+// A word as the number of a report.
+fn as_report(line: &[u8], t: Token, c: Cursor) -> Field
+    ensures { λ r. ⌜ seen (now (line .entry)) r ≡ reportAt t (tokensLeft (now (line .entry)) (c .at)) ⌝ }
+{
+    match t {
+        Token::Word(k) => {
+            if is_report(k) {
+                return Field::Is((k - words::WITHIN) as u32, c);
+            }
+            Field::Bad(Fault::UnknownWord)
+        }
+        Token::Number(_) => Field::Bad(Fault::UnknownWord),
+        Token::Large => Field::Bad(Fault::UnknownWord),
+    }
+}
+
+fn report(line: &[u8], c: Cursor) -> Field
+    ensures { λ r. ⌜ seen (now (line .entry)) r ≡ reportIn (tokensLeft (now (line .entry)) (c .at)) ⌝ }
+{
+    let step = words::next_word(line, c);
+    match step {
+        Step::End => Field::Bad(Fault::MissingField),
+        Step::Read(t, next) => as_report(line, t, next),
+    }
+}
+
+// The report with a number.
+fn word_numbered(x: u32) -> Word
+    ensures { λ r. ⌜ r ≡ wordNumbered x ⌝ }
+{
+    match x {
+        1 => Word::Won,
+        2 => Word::Lost,
+        3 => Word::Sent,
+        4 => Word::Ack,
+        5 => Word::Miss,
+        6 => Word::Drop,
+        7 => Word::Good,
+        8 => Word::Dcrc,
+        _ => Word::Broad,
+    }
+}
+
+// The depth after `within`.
+fn depth(line: &[u8], c: Cursor) -> Field
+    ensures { λ r. ⌜ seen (now (line .entry)) r ≡ depthIn (tokensLeft (now (line .entry)) (c .at)) ⌝ }
+    ensures { λ r. ⌜ fieldFits 255 r ⌝ }
+{
+    let step = words::next_word(line, c);
+    match step {
+        Step::End => Field::Bad(Fault::MissingField),
+        Step::Read(t, next) => {
+            if is_word(t, words::WITHIN) {
+                return number(line, BYTE, next);
+            }
+            Field::Bad(Fault::UnknownWord)
+        }
+    }
+}
+
+fn find(line: &[u8], c: Cursor) -> Line
+    ensures { λ r. ⌜ r ≡ findOf (tokensLeft (now (line .entry)) (c .at)) ⌝ }
+{
+    let first = report(line, c);
+    let Field::Is(said, after_report) = first else {
+        return Line::Wrong(fault_of(first));
+    };
+    let second = number(line, BYTE, after_report);
+    let Field::Is(node, after_node) = second else {
+        return Line::Wrong(fault_of(second));
+    };
+    let third = depth(line, after_node);
+    let Field::Is(most, after_depth) = third else {
+        return Line::Wrong(fault_of(third));
+    };
+    let q = Question {
+        word: word_numbered(said),
+        node: node as u8,
+    };
+    last(line, Line::Finds(q, most as u8), after_depth)
+}
+
 // A line of a run that begins with a name other than `nodes`.
 fn of_run(line: &[u8], k: u8, c: Cursor) -> Line
-    ensures { λ r. ⌜ r ≡ restOf Run k (tokensLeft (now (line .entry)) (c .at)) ⌝ }
+    ensures { λ r. ⌜ r ≡ runOf k (tokensLeft (now (line .entry)) (c .at)) ⌝ }
 {
     if is_kind(k) {
         return of_kind(line, k, c);
@@ -419,7 +512,7 @@ fn of_run(line: &[u8], k: u8, c: Cursor) -> Line
 
 // A line of settings that begins with a name other than `nodes`.
 fn of_settings(line: &[u8], k: u8, c: Cursor) -> Line
-    ensures { λ r. ⌜ r ≡ restOf Settings k (tokensLeft (now (line .entry)) (c .at)) ⌝ }
+    ensures { λ r. ⌜ r ≡ restOf T.Settings k (tokensLeft (now (line .entry)) (c .at)) ⌝ }
 {
     if k == words::ACTIONS {
         return actions(line, c);
@@ -428,6 +521,16 @@ fn of_settings(line: &[u8], k: u8, c: Cursor) -> Line
         return user(line, c);
     }
     Line::Wrong(Fault::UnknownWord)
+}
+
+// A line of a question that begins with a name other than `nodes`.
+fn of_question(line: &[u8], k: u8, c: Cursor) -> Line
+    ensures { λ r. ⌜ r ≡ restOf T.Question k (tokensLeft (now (line .entry)) (c .at)) ⌝ }
+{
+    if k == words::FIND {
+        return find(line, c);
+    }
+    of_run(line, k, c)
 }
 
 // A line that begins with a name.
@@ -440,6 +543,7 @@ fn named(text: Text, line: &[u8], k: u8, c: Cursor) -> Line
     match text {
         Text::Run => of_run(line, k, c),
         Text::Settings => of_settings(line, k, c),
+        Text::Question => of_question(line, k, c),
     }
 }
 

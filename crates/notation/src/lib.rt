@@ -1,4 +1,4 @@
-// Runs and settings in plain words: what each line says that people write, and what of it is to blame where it is wrong.
+// Runs, settings and questions in plain words: what each line says that people write, and what of it is to blame where it is wrong.
 mod causes;
 mod grammar;
 mod words;
@@ -12,6 +12,7 @@ ghost use Rattle.notation.specs.Meaning.{markSize};
 ghost use Rattle.notation.specs.Blame.{blameOf};
 use causes::Mark;
 use charts::Action;
+use charts::Question;
 use charts::User;
 use faults::Cause;
 use faults::Fault;
@@ -20,19 +21,22 @@ pub(crate) const WRONG_SIZE: u8 = 1;
 
 const LAST_LINE: u64 = 18446744073709551615;
 
-// What a text is of: a run, or the settings of a load trial.
+// What a text is of: a run, the settings of a load trial, or a run and a question about it.
 pub enum Text {
     Run,
     Settings,
+    Question,
 }
 
-// What a line says: nothing, the number of nodes, an action with how often it is repeated, the number of actions, a node's user, or what is wrong.
+// What a line says: nothing, the number of nodes, an action with how often it is repeated, the number of actions, a node's user, a question with the depth
+// of its search, or what is wrong.
 pub enum Line {
     Blank,
     Nodes(u8),
     Acts(Action, u32),
     Actions(u16),
     User(u8, User),
+    Finds(Question, u8),
     Wrong(Fault),
 }
 

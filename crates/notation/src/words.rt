@@ -29,6 +29,12 @@ pub(crate) const SPELL: u8 = 21;
 
 pub(crate) const FILLERS: u8 = 22;
 
+pub(crate) const FIND: u8 = 23;
+
+pub(crate) const WITHIN: u8 = 24;
+
+pub(crate) const BROAD: u8 = 33;
+
 const LIMIT: u64 = 4294967296;
 
 // A place in a line.
@@ -88,7 +94,7 @@ fn is_same(a: &[u8], b: &[u8]) -> bool
 
 // Whether a word is the name with that place.
 fn is_name(w: &[u8], k: u8) -> bool
-    requires { ⌜ k < 22 ⌝ }
+    requires { ⌜ k < 33 ⌝ }
     ensures { λ r. ⌜ r ≡ same (now (w .entry)) (getD names k []) ⌝ }
 {
     match k {
@@ -113,7 +119,18 @@ fn is_name(w: &[u8], k: u8) -> bool
         18 => is_same(w, b"user"),
         19 => is_same(w, b"to"),
         20 => is_same(w, b"spell"),
-        _ => is_same(w, b"fillers"),
+        21 => is_same(w, b"fillers"),
+        22 => is_same(w, b"find"),
+        23 => is_same(w, b"within"),
+        24 => is_same(w, b"won"),
+        25 => is_same(w, b"lost"),
+        26 => is_same(w, b"sent"),
+        27 => is_same(w, b"ack"),
+        28 => is_same(w, b"miss"),
+        29 => is_same(w, b"drop"),
+        30 => is_same(w, b"good"),
+        31 => is_same(w, b"dcrc"),
+        _ => is_same(w, b"broad"),
     }
 }
 
@@ -122,7 +139,7 @@ pub(crate) fn name(w: &[u8]) -> u8
     ensures { λ r. ⌜ r ≡ nameOf (now (w .entry)) ⌝ }
 {
     let mut k: u8 = 0;
-    while k < 22 {
+    while k < 33 {
         if is_name(w, k) {
             return k + 1;
         }

@@ -83,6 +83,7 @@ module _ (n k : ℕ) (us : ℕ → User) (fine : Fine n us) where
   line-fine (L.Acts a t) = tt
   line-fine (L.Actions j) = stage-fine (on n j us) (actionsStage n) (λ e. fine)
   line-fine (L.User i u) = stage-fine (on n k (upd us i u)) (userStage n i (u .address)) (user-fine i u)
+  line-fine (L.Finds q d) = tt
   line-fine (L.Wrong f) = tt
 
 abbrev Takes : Meaning → Type 0

@@ -103,6 +103,7 @@ module _ (i n k : ℕ) (us : ℕ → User) (s : Settings) (a : After i n k us s)
   line-goes (L.Acts x t) = (refl, next-line)
   line-goes (L.Actions j) = actions-go j
   line-goes (L.User j u) = user-goes j u
+  line-goes (L.Finds q d) = (refl, next-line)
   line-goes (L.Wrong f) = (refl, next-line)
 
   fed : (t : List ℕ) → feedOf s t ≡ lineTaken next (lineOf T.Settings t)

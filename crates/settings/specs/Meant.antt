@@ -37,6 +37,7 @@ lineOn n k us (L.Nodes m) = saidIf (on m k us) (nodesStage n m)
 lineOn n k us (L.Acts a t) = off UnknownWord
 lineOn n k us (L.Actions j) = saidIf (on n j us) (actionsStage n)
 lineOn n k us (L.User i u) = saidIf (on n k (upd us i u)) (userStage n i (u .address))
+lineOn n k us (L.Finds q d) = off UnknownWord
 lineOn n k us (L.Wrong f) = off f
 
 -- the end "has the number of its last line"

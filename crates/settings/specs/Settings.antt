@@ -79,13 +79,14 @@ userStage n i address =
 unfoldable pub userTaken : Settings → ℕ → User → Settings
 userTaken s i u = goesOn s (forUsers s (withUser (s .users) i u)) (userStage (s .n) i (u .address))
 
--- "line = blank | nodes | actions | user": settings have no action
+-- "line = blank | nodes | actions | user": settings have no action and no `find`
 unfoldable pub lineTaken : Settings → Line → Settings
 lineTaken s L.Blank = s
 lineTaken s (L.Nodes n) = nodesTaken s n
 lineTaken s (L.Acts a k) = stopped s UnknownWord
 lineTaken s (L.Actions k) = actionsTaken s k
 lineTaken s (L.User i u) = userTaken s i u
+lineTaken s (L.Finds q d) = stopped s UnknownWord
 lineTaken s (L.Wrong f) = stopped s f
 
 -- a line fed; settings that have stopped take none

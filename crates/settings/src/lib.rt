@@ -151,6 +151,7 @@ fn take_line(s: Settings, said: Line) -> Settings
         Line::Acts(_, _) => stop(s, Fault::UnknownWord),
         Line::Actions(k) => take_actions(s, k),
         Line::User(i, u) => take_user(s, i, u),
+        Line::Finds(_, _) => stop(s, Fault::UnknownWord),
         Line::Wrong(fault) => stop(s, fault),
     }
 }

@@ -1,6 +1,6 @@
-use Rattle.faults.specs.Faults.{faultWords}
-use Rattle.transcript.proofs.Puts.{and-then}
 use native.Mathlib.Omega.{arith}
+use Rattle.transcript.proofs.Puts.{and-then}
+use Rattle.faults.specs.Faults.{faultWords}
 use borrow.Author.Needs.{needs}
 use Rattle.faults.proofs.words.put_fault_words.Statement.{statement}
 use Rattle.faults.proofs.words.put_fault_words.Tie as tie
@@ -104,14 +104,32 @@ slice-aggregate-put-word-11 c = search needs
 put-word-requires-11 : tie.Need-put-word-requires-11
 put-word-requires-11 c κs = search needs
 
-enum-known-fault : tie.Need-enum-known-fault
-enum-known-fault c = search needs
+enum-told-12 : tie.Need-enum-told-12
+enum-told-12 c = search needs
 
 slice-aggregate-put-word-12 : tie.Need-slice-aggregate-put-word-12
 slice-aggregate-put-word-12 c = search needs
 
 put-word-requires-12 : tie.Need-put-word-requires-12
 put-word-requires-12 c κs = search needs
+
+enum-told-13 : tie.Need-enum-told-13
+enum-told-13 c = search needs
+
+slice-aggregate-put-word-13 : tie.Need-slice-aggregate-put-word-13
+slice-aggregate-put-word-13 c = search needs
+
+put-word-requires-13 : tie.Need-put-word-requires-13
+put-word-requires-13 c κs = search needs
+
+enum-known-fault : tie.Need-enum-known-fault
+enum-known-fault c = search needs
+
+slice-aggregate-put-word-14 : tie.Need-slice-aggregate-put-word-14
+slice-aggregate-put-word-14 c = search needs
+
+put-word-requires-14 : tie.Need-put-word-requires-14
+put-word-requires-14 c κs = search needs
 
 put-u8-requires : tie.Need-put-u8-requires
 put-u8-requires c κs = search needs
@@ -198,7 +216,21 @@ same-length-12 c = search needs
 
 returns-12 : tie.Need-returns-12
 unfolding faultWords
-returns-12 c = (omega arith, rw (c .before .before .before .before .before .before .before .before .before .before .fault .given .1) (and-then (c .before .before .before .before .before .before .put-word12 .ensures) (c .before .before .put-u8 .ensures .1)))
+returns-12 c = (omega arith, rw (c .before .before .before .before .before .enum-told12 .given .1) (c .before .before .put-word12 .ensures))
+
+same-length-13 : tie.Need-same-length-13
+same-length-13 c = search needs
+
+returns-13 : tie.Need-returns-13
+unfolding faultWords
+returns-13 c = (omega arith, rw (c .before .before .before .before .before .enum-told13 .given .1) (c .before .before .put-word13 .ensures))
+
+same-length-14 : tie.Need-same-length-14
+same-length-14 c = search needs
+
+returns-14 : tie.Need-returns-14
+unfolding faultWords
+returns-14 c = (omega arith, rw (c .before .before .before .before .before .before .before .before .before .before .fault .given .1) (and-then (c .before .before .before .before .before .before .put-word14 .ensures) (c .before .before .put-u8 .ensures .1)))
 
 pub put-fault-words-spec : {M : Type 1} → statement M
 put-fault-words-spec =
@@ -237,9 +269,15 @@ put-fault-words-spec =
     enum-told-11
     slice-aggregate-put-word-11
     put-word-requires-11
-    enum-known-fault
+    enum-told-12
     slice-aggregate-put-word-12
     put-word-requires-12
+    enum-told-13
+    slice-aggregate-put-word-13
+    put-word-requires-13
+    enum-known-fault
+    slice-aggregate-put-word-14
+    put-word-requires-14
     put-u8-requires
     same-length
     returns
@@ -264,4 +302,8 @@ put-fault-words-spec =
     same-length-11
     returns-11
     same-length-12
-    returns-12)
+    returns-12
+    same-length-13
+    returns-13
+    same-length-14
+    returns-14)

@@ -1,20 +1,11 @@
-use Rattle.transcript.proofs.Puts.{and-then}
 use native.Mathlib.Omega.{arith}
+use Rattle.transcript.proofs.Puts.{and-then}
 use borrow.Author.Needs.{needs}
 use Rattle.faults.proofs.words.put_none.Statement.{statement}
 use Rattle.faults.proofs.words.put_none.Tie as tie
 
-slice-aggregate-put-word : tie.Need-slice-aggregate-put-word
-slice-aggregate-put-word c = search needs
-
-put-word-requires : tie.Need-put-word-requires
-put-word-requires c κs = search needs
-
-put-shown-requires : tie.Need-put-shown-requires
-put-shown-requires c κs = search needs
-
-put-word-requires-2 : tie.Need-put-word-requires-2
-put-word-requires-2 c κs = search needs
+put-said-requires : tie.Need-put-said-requires
+put-said-requires c κs = search needs
 
 put-u8-requires : tie.Need-put-u8-requires
 put-u8-requires c κs = search needs
@@ -23,16 +14,7 @@ same-length : tie.Need-same-length
 same-length c = search needs
 
 returns : tie.Need-returns
-returns c = (omega arith, and-then (c .before .before .before .before .before .before .before .before .before .before .before .before .before .before .put-word .ensures) (and-then (c .before .before .before .before .before .before .before .before .before .before .put-shown .ensures .1) (and-then (c .before .before .before .before .before .before .put-word2 .ensures) ((c .before .before .put-u8 .ensures .1)))))
+returns c = (omega arith, and-then (c .before .before .before .before .before .before .put-said .ensures .1) (c .before .before .put-u8 .ensures .1))
 
 pub put-none-spec : {M : Type 1} → statement M
-put-none-spec =
-    tie.close
-    (tie.spec
-    slice-aggregate-put-word
-    put-word-requires
-    put-shown-requires
-    put-word-requires-2
-    put-u8-requires
-    same-length
-    returns)
+put-none-spec = tie.close (tie.spec put-said-requires put-u8-requires same-length returns)

@@ -100,6 +100,18 @@ enum-told-11 c = search needs
 nowhere-requires-7 : tie.Need-nowhere-requires-7
 nowhere-requires-7 c κs = search needs
 
+enum-told-12 : tie.Need-enum-told-12
+enum-told-12 c = search needs
+
+nowhere-requires-8 : tie.Need-nowhere-requires-8
+nowhere-requires-8 c κs = search needs
+
+enum-told-13 : tie.Need-enum-told-13
+enum-told-13 c = search needs
+
+nowhere-requires-9 : tie.Need-nowhere-requires-9
+nowhere-requires-9 c κs = search needs
+
 enum-known-fault : tie.Need-enum-known-fault
 enum-known-fault c = search needs
 
@@ -161,7 +173,15 @@ returns-11 c = (rw (c .before .enum-told11 .given .1) (c .nowhere7 .ensures), rw
 
 returns-12 : tie.Need-returns-12
 unfolding blameIn
-returns-12 c = (rw (c .before .before .before .before .before .fault .given .1, ← c .before .before .before .parse-line .ensures, ← c .before .before .refusal .ensures, ← c .before .statement-in .ensures .0) (c .at-span5 .ensures), rw (c .at-span5 .ensures) (c .before .statement-in .ensures .1))
+returns-12 c = (rw (c .before .enum-told12 .given .1) (c .nowhere8 .ensures), rw (c .nowhere8 .ensures) ((omega arith, omega arith)))
+
+returns-13 : tie.Need-returns-13
+unfolding blameIn
+returns-13 c = (rw (c .before .enum-told13 .given .1) (c .nowhere9 .ensures), rw (c .nowhere9 .ensures) ((omega arith, omega arith)))
+
+returns-14 : tie.Need-returns-14
+unfolding blameIn
+returns-14 c = (rw (c .before .before .before .before .before .fault .given .1, ← c .before .before .before .parse-line .ensures, ← c .before .before .refusal .ensures, ← c .before .statement-in .ensures .0) (c .at-span5 .ensures), rw (c .at-span5 .ensures) (c .before .statement-in .ensures .1))
 
 pub blame-in-spec : {M : Type 1} → statement M
 blame-in-spec =
@@ -199,6 +219,10 @@ blame-in-spec =
     nowhere-requires-6
     enum-told-11
     nowhere-requires-7
+    enum-told-12
+    nowhere-requires-8
+    enum-told-13
+    nowhere-requires-9
     enum-known-fault
     parse-line-requires
     refusal-requires
@@ -215,4 +239,6 @@ blame-in-spec =
     returns-9
     returns-10
     returns-11
-    returns-12)
+    returns-12
+    returns-13
+    returns-14)

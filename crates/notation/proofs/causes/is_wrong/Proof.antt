@@ -18,6 +18,9 @@ enum-told-4 c = search needs
 enum-told-5 : tie.Need-enum-told-5
 enum-told-5 c = search needs
 
+enum-told-6 : tie.Need-enum-told-6
+enum-told-6 c = search needs
+
 enum-known-said : tie.Need-enum-known-said
 enum-known-said c = search needs
 
@@ -46,7 +49,11 @@ returns-5 c = simp (c .enum-told5 .given .1)
 
 returns-6 : tie.Need-returns-6
 unfolding isWrong
-returns-6 c = simp (c .before .before .said .given .1, c .is-missing .ensures)
+returns-6 c = simp (c .enum-told6 .given .1)
+
+returns-7 : tie.Need-returns-7
+unfolding isWrong
+returns-7 c = simp (c .before .before .said .given .1, c .is-missing .ensures)
 
 pub is-wrong-spec : {M : Type 1} → statement M
 is-wrong-spec =
@@ -57,6 +64,7 @@ is-wrong-spec =
     enum-told-3
     enum-told-4
     enum-told-5
+    enum-told-6
     enum-known-said
     is-missing-requires
     returns
@@ -64,4 +72,5 @@ is-wrong-spec =
     returns-3
     returns-4
     returns-5
-    returns-6)
+    returns-6
+    returns-7)

@@ -1,4 +1,3 @@
-use Rattle.notation.specs.Grammar.{restOf}
 use borrow.Author.Needs.{needs}
 use Rattle.notation.proofs.grammar.of_run.Statement.{statement}
 use Rattle.notation.proofs.grammar.of_run.Tie as tie
@@ -10,11 +9,9 @@ of-kind-requires : tie.Need-of-kind-requires
 of-kind-requires c κs = search needs
 
 returns : tie.Need-returns
-unfolding restOf
 returns c = simp (← c .before .before .is-kind .ensures, c .before .if1 .taken, c .of-kind .ensures)
 
 returns-2 : tie.Need-returns-2
-unfolding restOf
 returns-2 c = simp (← c .before .is-kind .ensures, c .if1 .left)
 
 pub of-run-spec : {M : Type 1} → statement M

@@ -136,6 +136,72 @@ slice-aggregate-is-same-22 c = search needs
 is-same-requires-22 : tie.Need-is-same-requires-22
 is-same-requires-22 c κs = search needs
 
+slice-aggregate-is-same-23 : tie.Need-slice-aggregate-is-same-23
+slice-aggregate-is-same-23 c = search needs
+
+is-same-requires-23 : tie.Need-is-same-requires-23
+is-same-requires-23 c κs = search needs
+
+slice-aggregate-is-same-24 : tie.Need-slice-aggregate-is-same-24
+slice-aggregate-is-same-24 c = search needs
+
+is-same-requires-24 : tie.Need-is-same-requires-24
+is-same-requires-24 c κs = search needs
+
+slice-aggregate-is-same-25 : tie.Need-slice-aggregate-is-same-25
+slice-aggregate-is-same-25 c = search needs
+
+is-same-requires-25 : tie.Need-is-same-requires-25
+is-same-requires-25 c κs = search needs
+
+slice-aggregate-is-same-26 : tie.Need-slice-aggregate-is-same-26
+slice-aggregate-is-same-26 c = search needs
+
+is-same-requires-26 : tie.Need-is-same-requires-26
+is-same-requires-26 c κs = search needs
+
+slice-aggregate-is-same-27 : tie.Need-slice-aggregate-is-same-27
+slice-aggregate-is-same-27 c = search needs
+
+is-same-requires-27 : tie.Need-is-same-requires-27
+is-same-requires-27 c κs = search needs
+
+slice-aggregate-is-same-28 : tie.Need-slice-aggregate-is-same-28
+slice-aggregate-is-same-28 c = search needs
+
+is-same-requires-28 : tie.Need-is-same-requires-28
+is-same-requires-28 c κs = search needs
+
+slice-aggregate-is-same-29 : tie.Need-slice-aggregate-is-same-29
+slice-aggregate-is-same-29 c = search needs
+
+is-same-requires-29 : tie.Need-is-same-requires-29
+is-same-requires-29 c κs = search needs
+
+slice-aggregate-is-same-30 : tie.Need-slice-aggregate-is-same-30
+slice-aggregate-is-same-30 c = search needs
+
+is-same-requires-30 : tie.Need-is-same-requires-30
+is-same-requires-30 c κs = search needs
+
+slice-aggregate-is-same-31 : tie.Need-slice-aggregate-is-same-31
+slice-aggregate-is-same-31 c = search needs
+
+is-same-requires-31 : tie.Need-is-same-requires-31
+is-same-requires-31 c κs = search needs
+
+slice-aggregate-is-same-32 : tie.Need-slice-aggregate-is-same-32
+slice-aggregate-is-same-32 c = search needs
+
+is-same-requires-32 : tie.Need-is-same-requires-32
+is-same-requires-32 c κs = search needs
+
+slice-aggregate-is-same-33 : tie.Need-slice-aggregate-is-same-33
+slice-aggregate-is-same-33 c = search needs
+
+is-same-requires-33 : tie.Need-is-same-requires-33
+is-same-requires-33 c κs = search needs
+
 returns : tie.Need-returns
 returns c = simp (c .before .before .match .keys1, c .is-same .ensures)
 
@@ -200,13 +266,46 @@ returns-21 : tie.Need-returns-21
 returns-21 c = simp (c .before .before .match .keys21, c .is-same21 .ensures)
 
 returns-22 : tie.Need-returns-22
-returns-22 c =
+returns-22 c = simp (c .before .before .match .keys22, c .is-same22 .ensures)
+
+returns-23 : tie.Need-returns-23
+returns-23 c = simp (c .before .before .match .keys23, c .is-same23 .ensures)
+
+returns-24 : tie.Need-returns-24
+returns-24 c = simp (c .before .before .match .keys24, c .is-same24 .ensures)
+
+returns-25 : tie.Need-returns-25
+returns-25 c = simp (c .before .before .match .keys25, c .is-same25 .ensures)
+
+returns-26 : tie.Need-returns-26
+returns-26 c = simp (c .before .before .match .keys26, c .is-same26 .ensures)
+
+returns-27 : tie.Need-returns-27
+returns-27 c = simp (c .before .before .match .keys27, c .is-same27 .ensures)
+
+returns-28 : tie.Need-returns-28
+returns-28 c = simp (c .before .before .match .keys28, c .is-same28 .ensures)
+
+returns-29 : tie.Need-returns-29
+returns-29 c = simp (c .before .before .match .keys29, c .is-same29 .ensures)
+
+returns-30 : tie.Need-returns-30
+returns-30 c = simp (c .before .before .match .keys30, c .is-same30 .ensures)
+
+returns-31 : tie.Need-returns-31
+returns-31 c = simp (c .before .before .match .keys31, c .is-same31 .ensures)
+
+returns-32 : tie.Need-returns-32
+returns-32 c = simp (c .before .before .match .keys32, c .is-same32 .ensures)
+
+returns-33 : tie.Need-returns-33
+returns-33 c =
     let r = c .before .before .match .rest in
     let k = c .before .before .before .before .args .k in
-    let last : 21 ≤ k =
-    above 20 (above 19 (above 18 (above 17 (above 16 (above 15 (above 14 (above 13 (above 12 (above 11 (above 10 (above 9 (above 8 (above 7 (above 6 (above 5 (above 4 (above 3 (above 2 (above 1 (above 0 (search needs) (r .0 .0 .0 .0 .0 .0 .0 .0 .0 .0 .0 .0 .0 .0 .0 .0 .0 .0 .0 .0 .1)) (r .0 .0 .0 .0 .0 .0 .0 .0 .0 .0 .0 .0 .0 .0 .0 .0 .0 .0 .0 .1)) (r .0 .0 .0 .0 .0 .0 .0 .0 .0 .0 .0 .0 .0 .0 .0 .0 .0 .0 .1)) (r .0 .0 .0 .0 .0 .0 .0 .0 .0 .0 .0 .0 .0 .0 .0 .0 .0 .1)) (r .0 .0 .0 .0 .0 .0 .0 .0 .0 .0 .0 .0 .0 .0 .0 .0 .1)) (r .0 .0 .0 .0 .0 .0 .0 .0 .0 .0 .0 .0 .0 .0 .0 .1)) (r .0 .0 .0 .0 .0 .0 .0 .0 .0 .0 .0 .0 .0 .0 .1)) (r .0 .0 .0 .0 .0 .0 .0 .0 .0 .0 .0 .0 .0 .1)) (r .0 .0 .0 .0 .0 .0 .0 .0 .0 .0 .0 .0 .1)) (r .0 .0 .0 .0 .0 .0 .0 .0 .0 .0 .0 .1)) (r .0 .0 .0 .0 .0 .0 .0 .0 .0 .0 .1)) (r .0 .0 .0 .0 .0 .0 .0 .0 .0 .1)) (r .0 .0 .0 .0 .0 .0 .0 .0 .1)) (r .0 .0 .0 .0 .0 .0 .0 .1)) (r .0 .0 .0 .0 .0 .0 .1)) (r .0 .0 .0 .0 .0 .1)) (r .0 .0 .0 .0 .1)) (r .0 .0 .0 .1)) (r .0 .0 .1)) (r .0 .1)) (r .1)
+    let last : 32 ≤ k =
+    above 31 (above 30 (above 29 (above 28 (above 27 (above 26 (above 25 (above 24 (above 23 (above 22 (above 21 (above 20 (above 19 (above 18 (above 17 (above 16 (above 15 (above 14 (above 13 (above 12 (above 11 (above 10 (above 9 (above 8 (above 7 (above 6 (above 5 (above 4 (above 3 (above 2 (above 1 (above 0 (search needs) (r .0 .0 .0 .0 .0 .0 .0 .0 .0 .0 .0 .0 .0 .0 .0 .0 .0 .0 .0 .0 .0 .0 .0 .0 .0 .0 .0 .0 .0 .0 .0 .1)) (r .0 .0 .0 .0 .0 .0 .0 .0 .0 .0 .0 .0 .0 .0 .0 .0 .0 .0 .0 .0 .0 .0 .0 .0 .0 .0 .0 .0 .0 .0 .1)) (r .0 .0 .0 .0 .0 .0 .0 .0 .0 .0 .0 .0 .0 .0 .0 .0 .0 .0 .0 .0 .0 .0 .0 .0 .0 .0 .0 .0 .0 .1)) (r .0 .0 .0 .0 .0 .0 .0 .0 .0 .0 .0 .0 .0 .0 .0 .0 .0 .0 .0 .0 .0 .0 .0 .0 .0 .0 .0 .0 .1)) (r .0 .0 .0 .0 .0 .0 .0 .0 .0 .0 .0 .0 .0 .0 .0 .0 .0 .0 .0 .0 .0 .0 .0 .0 .0 .0 .0 .1)) (r .0 .0 .0 .0 .0 .0 .0 .0 .0 .0 .0 .0 .0 .0 .0 .0 .0 .0 .0 .0 .0 .0 .0 .0 .0 .0 .1)) (r .0 .0 .0 .0 .0 .0 .0 .0 .0 .0 .0 .0 .0 .0 .0 .0 .0 .0 .0 .0 .0 .0 .0 .0 .0 .1)) (r .0 .0 .0 .0 .0 .0 .0 .0 .0 .0 .0 .0 .0 .0 .0 .0 .0 .0 .0 .0 .0 .0 .0 .0 .1)) (r .0 .0 .0 .0 .0 .0 .0 .0 .0 .0 .0 .0 .0 .0 .0 .0 .0 .0 .0 .0 .0 .0 .0 .1)) (r .0 .0 .0 .0 .0 .0 .0 .0 .0 .0 .0 .0 .0 .0 .0 .0 .0 .0 .0 .0 .0 .0 .1)) (r .0 .0 .0 .0 .0 .0 .0 .0 .0 .0 .0 .0 .0 .0 .0 .0 .0 .0 .0 .0 .0 .1)) (r .0 .0 .0 .0 .0 .0 .0 .0 .0 .0 .0 .0 .0 .0 .0 .0 .0 .0 .0 .0 .1)) (r .0 .0 .0 .0 .0 .0 .0 .0 .0 .0 .0 .0 .0 .0 .0 .0 .0 .0 .0 .1)) (r .0 .0 .0 .0 .0 .0 .0 .0 .0 .0 .0 .0 .0 .0 .0 .0 .0 .0 .1)) (r .0 .0 .0 .0 .0 .0 .0 .0 .0 .0 .0 .0 .0 .0 .0 .0 .0 .1)) (r .0 .0 .0 .0 .0 .0 .0 .0 .0 .0 .0 .0 .0 .0 .0 .0 .1)) (r .0 .0 .0 .0 .0 .0 .0 .0 .0 .0 .0 .0 .0 .0 .0 .1)) (r .0 .0 .0 .0 .0 .0 .0 .0 .0 .0 .0 .0 .0 .0 .1)) (r .0 .0 .0 .0 .0 .0 .0 .0 .0 .0 .0 .0 .0 .1)) (r .0 .0 .0 .0 .0 .0 .0 .0 .0 .0 .0 .0 .1)) (r .0 .0 .0 .0 .0 .0 .0 .0 .0 .0 .0 .1)) (r .0 .0 .0 .0 .0 .0 .0 .0 .0 .0 .1)) (r .0 .0 .0 .0 .0 .0 .0 .0 .0 .1)) (r .0 .0 .0 .0 .0 .0 .0 .0 .1)) (r .0 .0 .0 .0 .0 .0 .0 .1)) (r .0 .0 .0 .0 .0 .0 .1)) (r .0 .0 .0 .0 .0 .1)) (r .0 .0 .0 .0 .1)) (r .0 .0 .0 .1)) (r .0 .0 .1)) (r .0 .1)) (r .1)
     in
-    rw (only-last last (c .before .before .before .before .pre)) (c .is-same22 .ensures)
+    rw (only-last last (c .before .before .before .before .pre)) (c .is-same33 .ensures)
 
 pub is-name-spec : {M : Type 1} → statement M
 is-name-spec =
@@ -256,6 +355,28 @@ is-name-spec =
     is-same-requires-21
     slice-aggregate-is-same-22
     is-same-requires-22
+    slice-aggregate-is-same-23
+    is-same-requires-23
+    slice-aggregate-is-same-24
+    is-same-requires-24
+    slice-aggregate-is-same-25
+    is-same-requires-25
+    slice-aggregate-is-same-26
+    is-same-requires-26
+    slice-aggregate-is-same-27
+    is-same-requires-27
+    slice-aggregate-is-same-28
+    is-same-requires-28
+    slice-aggregate-is-same-29
+    is-same-requires-29
+    slice-aggregate-is-same-30
+    is-same-requires-30
+    slice-aggregate-is-same-31
+    is-same-requires-31
+    slice-aggregate-is-same-32
+    is-same-requires-32
+    slice-aggregate-is-same-33
+    is-same-requires-33
     returns
     returns-2
     returns-3
@@ -277,4 +398,15 @@ is-name-spec =
     returns-19
     returns-20
     returns-21
-    returns-22)
+    returns-22
+    returns-23
+    returns-24
+    returns-25
+    returns-26
+    returns-27
+    returns-28
+    returns-29
+    returns-30
+    returns-31
+    returns-32
+    returns-33)

@@ -11,10 +11,10 @@ use Rattle.notation.proofs.words.name.Statement.{statement}
 use Rattle.notation.proofs.words.name.Tie as tie
 
 abbrev Inv-loop : tie.InvT-loop
-Inv-loop w k₀ k = (k ≤ 22) × (placeIn (suc k) (drop k names) w ≡ nameOf w)
+Inv-loop w k₀ k = (k ≤ 33) × (placeIn (suc k) (drop k names) w ≡ nameOf w)
 
 abbrev μ-loop : tie.MeasureT-loop
-μ-loop w k₀ k = 22 - k
+μ-loop w k₀ k = 33 - k
 
 loop-holds : tie.Need-loop-holds Inv-loop μ-loop
 unfolding nameOf
@@ -39,7 +39,7 @@ loop-again : tie.Need-loop-again Inv-loop μ-loop
 loop-again c = let l = c .before .before .before .loop in (search needs, rw add-one (rw (drop-cons names (l .k) [] (c .before .before .loop-test .taken), sym (c .before .is-name .ensures) ∙ c .if1 .left) at (l .inv .1)))
 
 returns-2 : tie.Need-returns-2 Inv-loop μ-loop
-returns-2 c = let l = c .before .loop in let last : l .k ≡ 22 = omega arith in rw last at (l .inv .1)
+returns-2 c = let l = c .before .loop in let last : l .k ≡ 33 = omega arith in rw last at (l .inv .1)
 
 pub name-spec : {M : Type 1} → statement M
 name-spec =
