@@ -45,11 +45,19 @@ pub fn start() -> Finder
     }
 }
 
-fn stop(mut f: Finder, fault: Fault) -> Finder
+fn stop(f: Finder, fault: Fault) -> Finder
     ensures { λ r. ⌜ seen r ≡ stopped (seen f) fault ⌝ }
 {
-    f.stage = Stage::Stopped(fault);
-    f
+    let bus = f.bus;
+    let question = f.question;
+    Finder {
+        stage: Stage::Stopped(fault),
+        line: f.line,
+        bus: bus,
+        asked: f.asked,
+        question: question,
+        depth: f.depth,
+    }
 }
 
 fn on_line(mut f: Finder, line: u64) -> Finder
