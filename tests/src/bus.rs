@@ -36,7 +36,7 @@ pub enum Phase {
 
 /// "It keeps four marks for each node: won, pending, holder, misled." "The bus keeps one more mark,
 /// set when an Acking node puts out its closing Prefix and cleared when the bus becomes Idle."
-#[derive(Clone, PartialEq, Eq, Debug)]
+#[derive(Clone, PartialEq, Eq, Hash, Debug)]
 pub struct Bus {
     pub n: u8,
     pub phase: Phase,

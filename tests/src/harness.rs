@@ -2,11 +2,15 @@
 //! `list`, `sums` and `trial` held against it, sample runs checked, demand 3 watched, trials looked at
 //! from outside, one transaction and its reply walked through whole, and figures taken.
 
+pub mod answers;
 pub mod asking;
 pub mod bench;
+pub mod bench_find;
 pub mod bench_trials;
 pub mod child;
 pub mod compare;
+pub mod compare_find;
+pub mod compare_probe;
 pub mod compare_sums;
 pub mod compare_text;
 pub mod compare_trials;
@@ -17,10 +21,12 @@ pub mod generate;
 pub mod hits;
 pub mod outside;
 pub mod page;
+pub mod questions;
 pub mod random;
 pub mod samples;
 pub mod seen;
 pub mod settings;
+pub mod states;
 pub mod sum_ways;
 pub mod tally;
 pub mod texts;

@@ -1,5 +1,5 @@
 //! The model written apart: an independent reference model of the IEEE 1394 rehearsal bench,
-//! written from document 01, requests 1 to 8 of document 02 and the readings of them, and from
+//! written from document 01, requests 1 to 9 of document 02 and the readings of them, and from
 //! nothing else.
 //!
 //! The model itself:
@@ -15,10 +15,13 @@
 //! - [`plain`]: what texts in plain words have in common;
 //! - [`notation`]: runs in plain words, a text to a run file and back;
 //! - [`trial`]: load trials, settings to actions and a tally;
-//! - [`settings`]: such settings in plain words.
+//! - [`settings`]: such settings in plain words;
+//! - [`routes`]: a state and a question to a route;
+//! - [`questions`]: a run and such a question in plain words;
+//! - [`probe`]: a state handed in and such a question as bytes.
 //!
-//! What is done with it, against the programs `play`, `compose`, `list`, `sums` and `trial`, stands
-//! in [`harness`].
+//! What is done with it, against the programs `play`, `compose`, `list`, `sums`, `trial` and `find`,
+//! stands in [`harness`].
 //!
 //! All forms of a run meet in [`bus::Record`]: `runfile` turns bytes into records and back, and
 //! `notation` lines of text.
@@ -31,6 +34,9 @@ pub mod harness;
 pub mod notation;
 pub mod plain;
 pub mod player;
+pub mod probe;
+pub mod questions;
+pub mod routes;
 pub mod runfile;
 pub mod settings;
 pub mod sums;

@@ -1,5 +1,5 @@
-//! `model`: the model written apart, and what holds the programs `play`, `compose`, `list`, `sums` and
-//! `trial` against it.
+//! `model`: the model written apart, and what holds the programs `play`, `compose`, `list`, `sums`,
+//! `trial` and `find` against it.
 
 use std::io::{self, BufReader, BufWriter, StdinLock, StdoutLock, Write};
 use std::path::PathBuf;
@@ -8,10 +8,10 @@ use std::process::ExitCode;
 use bench_model::harness::random::Random;
 use bench_model::harness::settings::made as made_settings;
 use bench_model::harness::{
-    bench, bench_trials, compare, compare_sums, compare_text, compare_trials, fuzz, generate,
-    samples, walk,
+    bench, bench_find, bench_trials, compare, compare_find, compare_probe, compare_sums,
+    compare_text, compare_trials, fuzz, generate, samples, walk,
 };
-use bench_model::{counts, notation, player, settings, sums, table};
+use bench_model::{counts, notation, player, probe, questions, settings, sums, table};
 
 const USAGE: &str = "\
 model play                                        a run file in, the printed text out
@@ -21,6 +21,8 @@ model list                                        a run file in, the run in plai
 model sums                                        a run file in, the sums of its blocks out
 model trial                                       the settings of a trial in plain words in, its run file out;
                                                   the tally on standard error
+model find                                        a question in plain words in, a route out
+model probe                                       questions about states handed in, as bytes, in, routes out
 model table                                       the reception chart, 25 lines of 14 cells
 model counts                                      how many sequences of classes end where, 17 lines
 model compare PLAY [--files N] [--seed S] [--only K]
@@ -33,6 +35,9 @@ model compare-sums SUMS [--files N] [--seed S] [--only K]
 model compare-trials TRIAL PLAY [--files N] [--seed S] [--only K]
                                                   made settings, tried by TRIAL and by the model; the
                                                   runs played by PLAY
+model compare-find FIND [--files N] [--seed S] [--only K]
+                                                  made questions, answered by FIND and by the model
+model compare-probe PROBE [--states N] [--seed S] made states handed in, by PROBE and by the model
 model settings [--wrong] [--seed S]               made settings, right or with a fault
 model runs DIR PLAY COMPOSE LIST SUMS             the sample runs of a directory
 model walk [--n N]                                one transaction and its reply, every way they can go
@@ -40,7 +45,8 @@ model generate mixed|broadcast|transaction [--n N] [--actions N] [--seed S]
                                                   a run file that plays to its end
 model bench PLAY [--kind KIND] [--actions N] [--rounds N] [--factor N] [--seed S]
                                                   the speed of PLAY and of the model
-model bench-trials TRIAL PLAY [--rounds N]        the time of TRIAL, and of PLAY for the same actions";
+model bench-trials TRIAL PLAY [--rounds N]        the time of TRIAL, and of PLAY for the same actions
+model bench-find FIND [--rounds N]                the time of FIND for questions that take long";
 
 fn main() -> ExitCode {
     match command() {
@@ -78,6 +84,14 @@ fn command() -> Result<(), String> {
             rest.end()?;
             trial().map_err(|error| error.to_string())
         }
+        "find" => {
+            rest.end()?;
+            find().map_err(|error| error.to_string())
+        }
+        "probe" => {
+            rest.end()?;
+            probe().map_err(|error| error.to_string())
+        }
         "table" => {
             rest.end()?;
             io::stdout().write_all(table::text().as_bytes()).map_err(|error| error.to_string())
@@ -106,6 +120,28 @@ fn command() -> Result<(), String> {
             let options = compare_trials::Options { trial: &trial, play: &play, files, seed, only };
             print!("{}", compare_trials::compare_trials(&options)?);
             Ok(())
+        }
+        "compare-find" => {
+            let files = rest.number("--files")?.unwrap_or(3000);
+            let seed = rest.number("--seed")?.unwrap_or(1);
+            let only = rest.number("--only")?;
+            let program = rest.program()?;
+            let options = compare::Options { program: &program, files, seed, only };
+            print!("{}", compare_find::compare_find(&options)?);
+            Ok(())
+        }
+        "compare-probe" => {
+            let states = rest.number("--states")?.unwrap_or(3000);
+            let seed = rest.number("--seed")?.unwrap_or(1);
+            let program = rest.program()?;
+            let options = compare_probe::Options { program: &program, states, seed };
+            print!("{}", compare_probe::compare_probe(&options)?);
+            Ok(())
+        }
+        "bench-find" => {
+            let rounds = rest.number("--rounds")?.unwrap_or(9).max(1) as usize;
+            let find = rest.program()?;
+            bench_find::bench_find(&bench_find::Options { find: &find, rounds })
         }
         "settings" => {
             let wrong = rest.flag("--wrong");
@@ -224,6 +260,17 @@ fn sums() -> io::Result<()> {
 fn trial() -> io::Result<()> {
     let (mut input, mut output) = buffered();
     settings::trial_stream(&mut input, &mut output, &mut io::stderr())
+}
+
+/// Here too: a route or `none` goes to standard output, or the fault to standard error.
+fn find() -> io::Result<()> {
+    let (mut input, mut output) = buffered();
+    questions::find_stream(&mut input, &mut output, &mut io::stderr())
+}
+
+fn probe() -> io::Result<()> {
+    let (mut input, mut output) = buffered();
+    probe::probe_stream(&mut input, &mut output)
 }
 
 /// The words after the subcommand: options are taken out, what is left is taken in order.

@@ -95,8 +95,8 @@ impl Fields<'_> {
 
 /// A text being read: as much of its lines so far as the next one depends on.
 #[derive(Default)]
-struct Text {
-    nodes: Nodes,
+pub(crate) struct Text {
+    pub(crate) nodes: Nodes,
     acts: bool,
 }
 
@@ -104,6 +104,12 @@ impl Text {
     /// One line of the text, in its place.
     fn line(&mut self, line: &[u8]) -> Result<Line, Flaw> {
         let read = read_line(line)?;
+        self.take(read, line)?;
+        Ok(read)
+    }
+
+    /// What a line says by itself, in its place.
+    pub(crate) fn take(&mut self, read: Line, line: &[u8]) -> Result<(), Flaw> {
         match read {
             Line::Blank => (),
             Line::Nodes(n) => self.nodes.say(n, line)?,
@@ -113,7 +119,7 @@ impl Text {
                 self.acts = true;
             }
         }
-        Ok(read)
+        Ok(())
     }
 
     /// The end of the text, after whole lines.

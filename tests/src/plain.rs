@@ -1,5 +1,6 @@
-//! Plain words: what runs ([`crate::notation`]) and settings of trials ([`crate::settings`]) have in
-//! common. Lines and their words, numbers, the `nodes` line, what can be wrong and how it is said.
+//! Plain words: what runs ([`crate::notation`]), settings of trials ([`crate::settings`]) and questions
+//! ([`crate::questions`]) have in common. Lines and their words, numbers, the `nodes` line, what can be
+//! wrong and how it is said.
 
 use std::collections::VecDeque;
 use std::fmt;
@@ -30,12 +31,14 @@ pub enum Fault {
     NodesAgain,
     NoAction,
     TooManyActions,
+    NoFindLine,
+    AfterFind,
     /// One of document 01's numbers.
     Refused(u8),
 }
 
 /// The words of each fault; those of document 01's numbers stand in [`refusal_words`].
-const WORDS: [(Fault, &str); 11] = [
+const WORDS: [(Fault, &str); 13] = [
     (Fault::LongLine, "line over 255 bytes"),
     (Fault::UnknownWord, "unknown word"),
     (Fault::MissingField, "missing field"),
@@ -47,6 +50,8 @@ const WORDS: [(Fault, &str); 11] = [
     (Fault::NodesAgain, "a second nodes line"),
     (Fault::NoAction, "no action"),
     (Fault::TooManyActions, "too many actions"),
+    (Fault::NoFindLine, "no find line"),
+    (Fault::AfterFind, "a line after find"),
 ];
 
 fn refusal_words(number: u8) -> String {
@@ -81,7 +86,7 @@ impl Flaw {
         Flaw { fault, cause: Some(cause.into()) }
     }
 
-    /// The first word of a line says nothing that is known.
+    /// A word says nothing that is known where it stands.
     pub fn unknown(word: &[u8]) -> Flaw {
         Flaw::by(Fault::UnknownWord, quoted(word))
     }

@@ -1,4 +1,5 @@
-//! "The twelve numbers", and request 3's: "13, label over 63".
+//! "The twelve numbers", request 3's: "13, label over 63", and request 9's: "14, depth over 6 or n over
+//! 8".
 
 #[derive(Clone, Copy, PartialEq, Eq, Hash, Debug)]
 pub enum Refusal {
@@ -28,6 +29,8 @@ pub enum Refusal {
     State = 12,
     /// Label over 63.
     Label = 13,
+    /// Of a route: depth over 6 or n over 8.
+    Route = 14,
 }
 
 impl Refusal {

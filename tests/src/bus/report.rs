@@ -46,6 +46,10 @@ impl Reading {
 }
 
 impl Report {
+    /// The word of each report, as [`Report::word`] says it.
+    pub const WORDS: [&'static str; 9] =
+        ["won", "lost", "sent", "ack", "miss", "good", "dcrc", "broad", "drop"];
+
     /// The word that the printed text has for it.
     pub fn word(self) -> &'static str {
         match self {

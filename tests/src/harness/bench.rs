@@ -97,6 +97,12 @@ fn processor_time(process: u32) -> Option<Duration> {
     Some(Duration::from_nanos(nanoseconds))
 }
 
+/// Time on the processor; on the clock where the system does not say.
+pub fn milliseconds(program: &Player, input: &Path) -> io::Result<f64> {
+    let time = program.time(input)?;
+    Ok(time.processor.unwrap_or(time.wall).as_secs_f64() * 1e3)
+}
+
 pub fn median(mut values: Vec<f64>) -> f64 {
     values.sort_by(f64::total_cmp);
     values[values.len() / 2]

@@ -5,7 +5,7 @@ use std::fs;
 use std::io;
 use std::path::Path;
 
-use super::bench::{median, Player};
+use super::bench::{median, milliseconds, Player};
 use super::child::Scratch;
 use super::settings::{longer, plain};
 use crate::trial::{self, Tally};
@@ -51,10 +51,4 @@ fn run(options: &Options) -> io::Result<()> {
         );
     }
     Ok(())
-}
-
-/// Time on the processor; on the clock where the system does not say.
-fn milliseconds(program: &Player, input: &Path) -> io::Result<f64> {
-    let time = program.time(input)?;
-    Ok(time.processor.unwrap_or(time.wall).as_secs_f64() * 1e3)
 }

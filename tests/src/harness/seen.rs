@@ -1,4 +1,4 @@
-//! What texts in plain words must hit, runs and settings alike: faults with their causes, words, ways
+//! What texts in plain words must hit, runs, settings and questions alike: faults with their causes, words, ways
 //! to write. Causes are found in what the model prints.
 
 use crate::plain::{statement, words, Complaint, Fault, LONGEST_LINE, MARK};
@@ -36,7 +36,7 @@ impl<'a> Seen<'a> {
         let mut wrong = None;
         if let Some(complaint) = complaint {
             let at_end = match complaint.flaw.fault {
-                Fault::NoAction => true,
+                Fault::NoAction | Fault::NoFindLine => true,
                 Fault::NoNodesLine => read.iter().all(|line| is_blank(line)),
                 _ => false,
             };
@@ -178,7 +178,7 @@ pub const STATEMENTS: [Sight; 6] = [
 
 /// What the texts of one grammar must hit.
 pub struct Aims {
-    pub faults: &'static [Fault],
+    pub faults: Vec<Fault>,
     /// Each fault with what its cause says of a field or of a word.
     pub causes: Vec<(Fault, String)>,
     pub words: Vec<&'static str>,

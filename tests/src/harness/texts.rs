@@ -3,7 +3,7 @@
 
 pub mod aims;
 pub mod spelling;
-mod wrong;
+pub(super) mod wrong;
 
 use super::page::Page;
 use super::random::Random;
@@ -83,9 +83,9 @@ impl TextWay {
 }
 
 /// A text under way, and the list of actions that it says so far.
-struct Writer<'a> {
-    page: Page<'a>,
-    n: u8,
+pub(super) struct Writer<'a> {
+    pub(super) page: Page<'a>,
+    pub(super) n: u8,
     /// Which of its lines says what.
     said: Vec<u8>,
     records: Vec<Record>,
@@ -94,6 +94,11 @@ struct Writer<'a> {
 impl<'a> Writer<'a> {
     fn new(random: &'a mut Random) -> Writer<'a> {
         let n = ways::nodes(random);
+        Writer::of(random, n)
+    }
+
+    /// Of a run on so many nodes.
+    pub(super) fn of(random: &'a mut Random, n: u8) -> Writer<'a> {
         Writer { page: Page::new(random), n, said: Vec::new(), records: Vec::new() }
     }
 
@@ -102,7 +107,7 @@ impl<'a> Writer<'a> {
         self.said.extend_from_slice(format!("{} {actions}\n", self.page.lines).as_bytes());
     }
 
-    fn nodes(&mut self) {
+    pub(super) fn nodes(&mut self) {
         self.page.blanks();
         let n = self.page.number(self.n.into());
         self.page.words(&[b"nodes".to_vec(), n]);
@@ -111,7 +116,7 @@ impl<'a> Writer<'a> {
     }
 
     /// One line of an action, so many times.
-    fn acts(&mut self, record: Record, times: usize) {
+    pub(super) fn acts(&mut self, record: Record, times: usize) {
         let mut words: Vec<Word> = self.spell(record).into_iter().map(|(_, word)| word).collect();
         if times != 1 || self.page.free && self.page.random.percent(5) {
             words.extend([b"*".to_vec(), self.page.number(times as u64)]);
@@ -142,7 +147,7 @@ impl<'a> Writer<'a> {
     }
 
     /// The words of an action's line, each with what it stands for.
-    fn spell(&mut self, record: Record) -> Vec<(Slot, Word)> {
+    pub(super) fn spell(&mut self, record: Record) -> Vec<(Slot, Word)> {
         let Record { kind, node, address, ack, hold, label, header, data, .. } = record;
         let mut words = vec![(Slot::Name, NAMES[usize::from(kind)].into())];
         if names(kind, Field::Node) {
@@ -174,19 +179,8 @@ impl<'a> Writer<'a> {
         words
     }
 
-    fn composes(mut self) -> TextCase {
-        let file = ways::file(self.n, &self.records);
-        let lines = std::mem::take(&mut self.said);
-        TextCase { text: self.page.text(), expected: Some(Expected { file, lines, fault: None }) }
-    }
-
-    /// The line put last has this fault: whole blocks before it are out. Anything may follow.
-    fn faulty(mut self, fault: Fault) -> TextCase {
-        let whole = self.records.len() / FULL;
-        let mut file = ways::file(self.n, &self.records);
-        file.truncate(whole * BLOCK);
-        let lines = std::mem::take(&mut self.said);
-        let fault = Some((self.page.lines, fault));
+    /// What follows a fault, now and then: it does not count.
+    pub(super) fn anything(&mut self) {
         if self.page.random.percent(60) {
             let more = self.page.random.between(1, 70) as usize;
             self.actions(self.records.len() + more);
@@ -195,6 +189,22 @@ impl<'a> Writer<'a> {
             let line = any_line(self.page.random);
             self.page.put(&line);
         }
+    }
+
+    fn composes(mut self) -> TextCase {
+        let file = ways::file(self.n, &self.records);
+        let lines = std::mem::take(&mut self.said);
+        TextCase { text: self.page.text(), expected: Some(Expected { file, lines, fault: None }) }
+    }
+
+    /// The line put last has this fault: whole blocks before it are out.
+    fn faulty(mut self, fault: Fault) -> TextCase {
+        let whole = self.records.len() / FULL;
+        let mut file = ways::file(self.n, &self.records);
+        file.truncate(whole * BLOCK);
+        let lines = std::mem::take(&mut self.said);
+        let fault = Some((self.page.lines, fault));
+        self.anything();
         TextCase { text: self.page.text(), expected: Some(Expected { file, lines, fault }) }
     }
 }
@@ -256,7 +266,7 @@ pub fn alter(random: &mut Random, text: &mut Vec<u8>) {
 }
 
 /// A digit more may make a repeat of millions: blocks without end are tried elsewhere.
-fn keep_small(text: Vec<u8>) -> Vec<u8> {
+pub(super) fn keep_small(text: Vec<u8>) -> Vec<u8> {
     let large = |line: &[u8]| match notation::read_line(line) {
         Ok(Line::Acts(_, times)) => times > 100_000,
         _ => false,

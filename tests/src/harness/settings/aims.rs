@@ -157,7 +157,7 @@ const VALUES: [Value; 23] = [
 /// All that a text can hit.
 fn all() -> Aims {
     Aims {
-        faults: &FAULTS,
+        faults: FAULTS.into(),
         causes: causes(),
         words: known_words(),
         sights: vec![

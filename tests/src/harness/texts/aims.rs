@@ -7,7 +7,7 @@ use crate::notation::{self, Complaint, Fault, Line};
 use crate::runfile::FULL;
 
 /// All that a text can have; too many actions take a text that nobody waits for.
-const FAULTS: [Fault; 15] = [
+pub const FAULTS: [Fault; 15] = [
     Fault::LongLine,
     Fault::UnknownWord,
     Fault::MissingField,
@@ -44,7 +44,7 @@ const FIELDS: [&str; 14] = [
 ];
 
 /// Each fault with what its cause says of a field or of a word.
-fn causes() -> Vec<(Fault, String)> {
+pub fn causes() -> Vec<(Fault, String)> {
     let missing = of(Fault::MissingField, &FIELDS[..13]);
     let not = of(Fault::NotANumber, &FIELDS).chain(of(Fault::NotANumber, &HINTS));
     let large = of(Fault::TooLarge, &FIELDS);
@@ -54,7 +54,7 @@ fn causes() -> Vec<(Fault, String)> {
 }
 
 /// The words that begin a line, then the others.
-fn known_words() -> Vec<&'static str> {
+pub fn known_words() -> Vec<&'static str> {
     NAMES.into_iter().chain(["all", "label", "hold", "*"]).collect()
 }
 
@@ -118,7 +118,7 @@ const TEXTS: [Sight; 8] = [
     ("a fault at the end of the text", |seen| seen.fault.is_some() && seen.wrong.is_none()),
 ];
 
-const REPEATED: [Sight; 1] = [("with a repeat", |seen| seen.statement().contains(&b'*'))];
+pub const REPEATED: [Sight; 1] = [("with a repeat", |seen| seen.statement().contains(&b'*'))];
 
 const LABELS: [Sight; 11] = [
     ("0", |seen| labelled(seen, |words| words[0] == b"0")),
@@ -147,7 +147,7 @@ const LABELS: [Sight; 11] = [
 /// All there is to hit.
 fn all() -> Aims {
     Aims {
-        faults: &FAULTS,
+        faults: FAULTS.into(),
         causes: causes(),
         words: known_words(),
         sights: vec![

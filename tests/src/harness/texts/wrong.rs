@@ -1,8 +1,8 @@
 //! Texts with one wrong line, and texts that end too early.
 
 use super::spelling::{
-    any_word, blank_line, no_number, spell_number, spoil_with, strange_word, stretch, too_large,
-    unknown_word, Slot, Word,
+    any_word, no_number, spell_number, spoil_with, strange_word, stretch, too_large, unknown_word,
+    Slot, Word,
 };
 use super::{Expected, TextCase, Writer};
 use crate::bus::Record;
@@ -99,7 +99,7 @@ pub fn before(random: &mut Random) -> usize {
     random.pick(&[0, 0, 1, 2, 29, 30, 31, 32, 61, 62, 63, 93, any, any])
 }
 
-fn spoil_rest(random: &mut Random, words: &mut Vec<Word>, from: usize) {
+pub fn spoil_rest(random: &mut Random, words: &mut Vec<Word>, from: usize) {
     spoil_with(random, words, from, any_word);
 }
 
@@ -107,13 +107,57 @@ fn spoil_rest(random: &mut Random, words: &mut Vec<Word>, from: usize) {
 pub fn wrong_line(random: &mut Random, wrong: Wrong) -> TextCase {
     let count = before(random);
     let mut writer = Writer::new(random);
+    let fault = put_line(&mut writer, wrong, |writer| {
+        writer.nodes();
+        writer.actions(count);
+    });
+    writer.faulty(fault)
+}
+
+/// Puts this line down, after the lines before it or as the first one; says what its fault is.
+pub fn put_line(
+    writer: &mut Writer,
+    wrong: Wrong,
+    lines_before: impl FnOnce(&mut Writer),
+) -> Fault {
     if matches!(wrong, Wrong::SecondMark | Wrong::HalfMark) {
         writer.page.marked = wrong == Wrong::SecondMark;
         writer.page.no_mark();
-        return writer.faulty(Fault::UnknownWord);
+        return Fault::UnknownWord;
     }
-    // A fault of the first line that is not blank.
-    let first = match wrong {
+    match is_first(writer, wrong) {
+        true => writer.page.blanks(),
+        false => lines_before(writer),
+    }
+    if let Wrong::Long(length) = wrong {
+        writer.page.long(length, &[b"#", b"pass", b"unknown", b"clock 0 # ", b""]);
+        return Fault::LongLine;
+    }
+    put_words(writer, |writer| wrong_words(writer, wrong))
+}
+
+/// Puts down the words of a wrong line that is not too long; those of a refused one stretched now and
+/// then.
+pub fn put_words(writer: &mut Writer, make: impl Fn(&mut Writer) -> (Vec<Word>, Fault)) -> Fault {
+    let (words, fault) = loop {
+        let (words, fault) = make(writer);
+        if words.join(&b' ').len() <= LONGEST_LINE {
+            break (words, fault);
+        }
+    };
+    match fault {
+        Fault::Refused(_) if writer.page.random.percent(25) => {
+            let line = stretch(writer.page.random, &words);
+            writer.page.put(&line);
+        }
+        _ => writer.page.words(&words),
+    }
+    fault
+}
+
+/// Whether the fault is that of the first line that is not blank.
+fn is_first(writer: &mut Writer, wrong: Wrong) -> bool {
+    match wrong {
         Wrong::ActionBeforeNodes | Wrong::Nodes(_) => true,
         Wrong::Missing(0) | Wrong::NotANumber(0) | Wrong::TooLarge(0) | Wrong::Extra(0) => {
             writer.page.random.percent(70)
@@ -128,36 +172,11 @@ pub fn wrong_line(random: &mut Random, wrong: Wrong) -> TextCase {
         | Wrong::Label(_)
         | Wrong::Ack(_) => false,
         _ => writer.page.random.percent(10),
-    };
-    match first {
-        true => writer.page.blanks(),
-        false => {
-            writer.nodes();
-            writer.actions(count);
-        }
     }
-    if let Wrong::Long(length) = wrong {
-        writer.page.long(length, &[b"#", b"pass", b"unknown", b"clock 0 # ", b""]);
-        return writer.faulty(Fault::LongLine);
-    }
-    let (words, fault) = loop {
-        let (words, fault) = wrong_words(&mut writer, wrong);
-        if words.join(&b' ').len() <= LONGEST_LINE {
-            break (words, fault);
-        }
-    };
-    match fault {
-        Fault::Refused(_) if writer.page.random.percent(25) => {
-            let line = stretch(writer.page.random, &words);
-            writer.page.put(&line);
-        }
-        _ => writer.page.words(&words),
-    }
-    writer.faulty(fault)
 }
 
 /// The words of a right line of this kind, 0 for `nodes`, each with what it stands for.
-fn right_words(writer: &mut Writer, kind: u8) -> Vec<(Slot, Word)> {
+pub fn right_words(writer: &mut Writer, kind: u8) -> Vec<(Slot, Word)> {
     if kind == 0 {
         let n = writer.page.random.byte(2, 63);
         return vec![(Slot::Name, b"nodes".to_vec()), (Slot::Byte, writer.page.number(n.into()))];
@@ -170,7 +189,7 @@ fn right_words(writer: &mut Writer, kind: u8) -> Vec<(Slot, Word)> {
     writer.spell(record)
 }
 
-fn bare(words: Vec<(Slot, Word)>) -> Vec<Word> {
+pub fn bare(words: Vec<(Slot, Word)>) -> Vec<Word> {
     words.into_iter().map(|(_, word)| word).collect()
 }
 
@@ -377,7 +396,18 @@ fn refused(writer: &mut Writer, record: Record) -> Vec<Word> {
 /// A text that ends too early.
 pub fn wrong_end(random: &mut Random, end: End) -> TextCase {
     let mut writer = Writer::new(random);
-    let fault = match end {
+    let fault = put_end(&mut writer, end);
+    let fault = Some((writer.page.lines, fault));
+    let lines = std::mem::take(&mut writer.said);
+    TextCase {
+        text: writer.page.text(),
+        expected: Some(Expected { file: Vec::new(), lines, fault }),
+    }
+}
+
+/// Puts down what there is before such an end; says what the fault is.
+pub fn put_end(writer: &mut Writer, end: End) -> Fault {
+    match end {
         End::Empty | End::MarkAlone => {
             writer.page.marked = end == End::MarkAlone;
             Fault::NoNodesLine
@@ -390,24 +420,16 @@ pub fn wrong_end(random: &mut Random, end: End) -> TextCase {
         }
         End::BlankAlone => {
             for _ in 0..writer.page.random.between(1, 5) {
-                let line = blank_line(writer.page.random);
-                writer.page.put(&line);
+                writer.page.blank();
             }
             Fault::NoNodesLine
         }
         End::NodesAlone => {
             writer.nodes();
             for _ in 0..writer.page.random.below(3) {
-                let line = blank_line(writer.page.random);
-                writer.page.put(&line);
+                writer.page.blank();
             }
             Fault::NoAction
         }
-    };
-    let fault = Some((writer.page.lines, fault));
-    let lines = std::mem::take(&mut writer.said);
-    TextCase {
-        text: writer.page.text(),
-        expected: Some(Expected { file: Vec::new(), lines, fault }),
     }
 }

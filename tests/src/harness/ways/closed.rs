@@ -138,7 +138,7 @@ fn phase_of(kind: u8) -> &'static str {
     }
 }
 
-fn signal_name(signal: Signal) -> &'static str {
+pub fn signal_name(signal: Signal) -> &'static str {
     match signal {
         Signal::Start => "Start",
         Signal::End => "End",
