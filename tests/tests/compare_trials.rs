@@ -1,49 +1,11 @@
 //! `compare-trials` and `bench-trials`, with stand-ins for the programs `trial` and `play`: scripts that
 //! call the model, and that alter what it writes.
 
-use std::fs;
-use std::os::unix::fs::PermissionsExt;
-use std::path::{Path, PathBuf};
-use std::process::Command;
+mod common;
 
-/// A folder of its own; removed at the end.
-struct Room(PathBuf);
+use std::path::Path;
 
-impl Room {
-    fn new() -> Room {
-        let path = std::env::temp_dir().join(format!("stand-ins-{}", std::process::id()));
-        fs::create_dir_all(&path).expect("a folder");
-        Room(path)
-    }
-
-    /// A script of this name, which knows the model as `$model` and a file of its own as `$own`.
-    fn script(&self, name: &str, body: &str) -> PathBuf {
-        let path = self.0.join(name);
-        let (model, room) = (env!("CARGO_BIN_EXE_model"), self.0.display());
-        let text = format!("#!/bin/sh\nmodel='{model}'\nown='{room}/'$$\n{body}\n");
-        fs::write(&path, text).expect("a script");
-        fs::set_permissions(&path, fs::Permissions::from_mode(0o755)).expect("a program");
-        path
-    }
-
-    /// Status, standard output and standard error of a subcommand with both programs.
-    fn run(&self, words: &[&str], trial: &Path, play: &Path) -> (i32, String, String) {
-        let said = Command::new(env!("CARGO_BIN_EXE_model"))
-            .args(words)
-            .args([trial, play])
-            .env("TMPDIR", &self.0)
-            .output()
-            .expect("the model runs");
-        let text = |bytes| String::from_utf8(bytes).expect("plain text");
-        (said.status.code().unwrap_or(-1), text(said.stdout), text(said.stderr))
-    }
-}
-
-impl Drop for Room {
-    fn drop(&mut self) {
-        let _ = fs::remove_dir_all(&self.0);
-    }
-}
+use common::stand_ins::Room;
 
 /// The trial with this done to what it writes to standard error.
 fn with_errors(filter: &str) -> String {
@@ -53,22 +15,22 @@ fn with_errors(filter: &str) -> String {
 // One test: a script that is written while another one is started may be busy.
 #[test]
 fn stand_ins() {
-    let room = Room::new();
+    let room = Room::new("trials");
     let trial = room.script("trial", "exec \"$model\" trial");
     let play = room.script("play", "exec \"$model\" play");
     for only in ["0", "1", "2", "3", "40", "41"] {
-        let said = room.run(&["compare-trials", "--only", only], &trial, &play);
+        let said = room.run(&["compare-trials", "--only", only], &[&trial, &play]);
         assert_eq!(said, (0, "equal\n".into(), String::new()));
     }
     // All are equal, and too few to hit all.
-    let (status, output, errors) = room.run(&["compare-trials", "--files", "20"], &trial, &play);
+    let (status, output, errors) = room.run(&["compare-trials", "--files", "20"], &[&trial, &play]);
     assert_eq!((status, &output[..]), (1, ""));
     assert!(errors.starts_with("model: 20 settings; hit:\n"), "{errors}");
     assert!(errors.contains("not hit: "), "{errors}");
 
     let wrong = |trial: &Path, play: &Path, part: &str| {
         let words = ["compare-trials", "--files", "400"];
-        let (status, output, errors) = room.run(&words, trial, play);
+        let (status, output, errors) = room.run(&words, &[trial, play]);
         assert_eq!((status, &output[..]), (1, ""));
         assert!(errors.contains(part), "{errors}, not {part}");
         assert!(errors.contains("again: model compare-trials TRIAL PLAY --seed 1 --only "));
@@ -90,7 +52,7 @@ fn stand_ins() {
     wrong_play("won", "\"$model\" play | sed 's/won$/lost/'", "PLAY: ");
     wrong_play("end", "\"$model\" play | sed '$d'", "PLAY: ");
 
-    let (status, output, errors) = room.run(&["bench-trials", "--rounds", "1"], &trial, &play);
+    let (status, output, errors) = room.run(&["bench-trials", "--rounds", "1"], &[&trial, &play]);
     assert_eq!((status, &errors[..]), (0, ""));
     for n in [2, 63] {
         let line = output.lines().find(|line| line.starts_with(&format!("  n = {n}: TRIAL ")));
