@@ -1,6 +1,7 @@
 //! What is done with the model: run files and texts made at random, the programs `play`, `compose`,
-//! `list`, `sums` and `trial` held against it, sample runs checked, demand 3 watched, trials looked at
-//! from outside, one transaction and its reply walked through whole, and figures taken.
+//! `list`, `sums`, `trial` and `find` held against it, sample runs checked, demand 3 watched, trials
+//! looked at from outside, states handed in, one transaction and its reply walked through whole, and
+//! figures taken.
 
 pub mod answers;
 pub mod asking;

@@ -2,6 +2,7 @@
 //! enough": two routes need not be the same, but each must be one.
 
 use super::questions::place_name;
+use super::ways::at_rest;
 use crate::bus::{Action, Bus, Record, Report};
 use crate::notation::{self, Line};
 use crate::routes::{self, Question, Route, DEEPEST};
@@ -73,6 +74,14 @@ fn of(what: &str, of: impl std::fmt::Display, found: bool) -> String {
     format!("{what} {of}: {}", if found { "found" } else { "none" })
 }
 
+/// "While a node is Asked, kinds 4 to 10 are not open."
+const WHILE_ASKED: &str = "none, and a route if no node were Asked";
+
+fn is_kept_closed(bus: &Bus, question: &Question) -> bool {
+    let is_asked = bus.asked().next().is_some();
+    is_asked && routes::find(&at_rest(bus), question).is_ok_and(|route| route.is_some())
+}
+
 fn shortest(length: usize) -> String {
     format!("a shortest route of {length}")
 }
@@ -85,7 +94,8 @@ pub fn aims(places: &[&str]) -> Vec<String> {
     let depths = both("within", &depths, |&depth| depth > 0);
     let places = both("at", places, |place| *place != "Idle");
     let lengths = (1..=usize::from(DEEPEST)).map(shortest);
-    words.into_iter().chain(depths).chain(places).chain(lengths).collect()
+    let asked = [WHILE_ASKED.into()];
+    words.into_iter().chain(depths).chain(places).chain(lengths).chain(asked).collect()
 }
 
 /// Each of these with `none`, and with `found` where that can be.
@@ -103,5 +113,6 @@ pub fn hits(bus: &Bus, question: &Question, route: &Route) -> Vec<String> {
         of("at", place_name(bus.phase), found),
     ];
     hits.extend(route.as_ref().map(|actions| shortest(actions.len())));
+    hits.extend(is_kept_closed(bus, question).then(|| WHILE_ASKED.into()));
     hits
 }

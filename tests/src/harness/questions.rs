@@ -10,8 +10,8 @@ use super::page::Page;
 use super::random::Random;
 use super::texts::spelling::{any_line, spell_number, Word};
 use super::texts::{self, alter, keep_small, widen, Writer};
-use super::ways::{phase_name, signal_name};
-use crate::bus::{Action, Bus, Phase, Record, Report, Reported};
+use super::ways::{at_rest, phase_name, signal_name};
+use crate::bus::{Action, Bus, Mode, Phase, Record, Report, Reported};
 use crate::plain::Fault;
 use crate::questions::Asked;
 use crate::routes::{self, Question, DEEPEST, MOST_NODES};
@@ -42,7 +42,7 @@ pub fn place_name(phase: Phase) -> &'static str {
 pub enum QuestionWay {
     /// A right question at such a place.
     At(&'static str),
-    /// While a node is Asked.
+    /// While a node is Asked, and another waits for an acknowledgement.
     WhileAsked,
     /// One line of the run is wrong.
     WrongRun(texts::Wrong),
@@ -59,22 +59,29 @@ pub enum QuestionWay {
 impl QuestionWay {
     pub fn all() -> Vec<QuestionWay> {
         // Right ones about as often as all others together.
-        let mut all = PLACES.map(QuestionWay::At).repeat(24);
+        let mut all = PLACES.map(QuestionWay::At).repeat(14);
         // From there on a report is rarely near.
-        all.extend([QuestionWay::At("Start"), QuestionWay::At("Granting")].repeat(12));
-        all.extend([QuestionWay::WhileAsked; 3]);
+        all.extend([QuestionWay::At("Start"), QuestionWay::At("Granting")].repeat(8));
+        all.extend([QuestionWay::WhileAsked; 8]);
         all.extend(texts::Wrong::all().into_iter().map(QuestionWay::WrongRun));
+        // With the byte order mark these are rare.
+        let long = [256, 257, 300, 5000].map(texts::Wrong::Long);
+        all.extend(long.map(QuestionWay::WrongRun).repeat(2));
+        all.extend([QuestionWay::WrongRun(texts::Wrong::MarkInside); 2]);
         all.extend(Wrong::all().into_iter().map(QuestionWay::WrongLine));
         all.extend(End::all().map(QuestionWay::WrongEnd));
         all.extend([QuestionWay::Mutated, QuestionWay::AnyWords].repeat(6));
-        all.extend([QuestionWay::Wide, QuestionWay::AnyBytes]);
+        all.extend([QuestionWay::Wide, QuestionWay::Wide, QuestionWay::AnyBytes]);
         all
     }
 
     pub fn make(self, random: &mut Random) -> QuestionCase {
         match self {
             QuestionWay::At(place) => right(random, |bus| place_name(bus.phase) == place),
-            QuestionWay::WhileAsked => right(random, |bus| bus.asked().next().is_some()),
+            QuestionWay::WhileAsked => right(random, |bus| {
+                let waits = (0..bus.n).any(|node| bus.node(node).mode == Mode::AwaitAck);
+                waits && bus.asked().next().is_some()
+            }),
             QuestionWay::WrongRun(wrong) => wrong::wrong_run(random, wrong),
             QuestionWay::WrongLine(wrong) => wrong::wrong_line(random, wrong),
             QuestionWay::WrongEnd(end) => wrong::wrong_end(random, end),
@@ -162,17 +169,33 @@ pub fn question(random: &mut Random, bus: &Bus) -> Question {
         depth: random.byte(0, DEEPEST),
     };
     match outcome(random, bus) {
-        Some((Reported { node, report }, length)) if random.percent(75) => {
-            let depth = random.pick(&[length, length, length - 1, DEEPEST, any.depth]);
-            Question { word: report.word(), node, depth }
-        }
+        Some((Reported { node, report }, length)) if random.percent(75) => Question {
+            word: if random.percent(90) { report.word() } else { near(report) },
+            node: if random.percent(95) { node } else { any.node },
+            depth: random.pick(&[length, length, length, length - 1, DEEPEST, any.depth]),
+        },
         _ => any,
     }
 }
 
-/// What some bus events one after the other report, and how many they are.
+/// The word of a report that comes where this one comes, if something else has arrived.
+fn near(report: Report) -> &'static str {
+    match report {
+        Report::Won => "lost",
+        Report::Lost => "won",
+        Report::Sent { .. } | Report::Ack { .. } => "miss",
+        Report::Miss { .. } => "ack",
+        Report::Good { .. } => "dcrc",
+        Report::Dcrc { .. } => "good",
+        Report::Broad { .. } => "drop",
+        Report::Drop { .. } => "broad",
+    }
+}
+
+/// What some bus events one after the other report, and how many they are; if nodes are Asked, as if
+/// they were in Rest.
 fn outcome(random: &mut Random, bus: &Bus) -> Option<(Reported, u8)> {
-    let mut bus = bus.clone();
+    let mut bus = at_rest(bus);
     let mut last = None;
     for length in 1..=DEEPEST {
         let open: Vec<Action> = routes::events(bus.n).filter(|&event| bus.is_open(event)).collect();

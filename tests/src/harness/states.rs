@@ -169,10 +169,15 @@ struct Style {
 }
 
 impl Style {
-    fn random(random: &mut Random) -> Style {
+    /// For a bus in this phase.
+    fn random(random: &mut Random, phase: Phase) -> Style {
+        let often = match phase {
+            Phase::Delivering { signal, .. } if random.percent(60) => awaiting(random, signal),
+            _ => often(random),
+        };
         Style {
             asked: random.pick(&[0, 0, 0, 0, 10]),
-            often: (often(random), random.pick(&[0, 30, 60, 90])),
+            often: (often, random.pick(&[0, 30, 60, 90])),
             awaiting: random.pick(&[0, 10, 30]),
             holder: random.pick(&[0, 10, 10, 50, 100]),
             pending: random.pick(&[0, 10, 50, 100]),
@@ -197,8 +202,8 @@ impl Style {
 /// A state of so many nodes; of sizes that there are not, all but n is as for the most there are.
 fn state(random: &mut Random, n: u8) -> Bus {
     let nodes = n.clamp(2, NODES);
-    let style = Style::random(random);
     let mut bus = Bus { n, phase: phase(random, nodes), ..Bus::REFUSED };
+    let style = Style::random(random, bus.phase);
     for node in 0..nodes {
         bus.nodes[usize::from(node)] = style.node(random, nodes);
     }
@@ -213,13 +218,18 @@ fn state(random: &mut Random, n: u8) -> Bus {
     bus
 }
 
-/// One node alone holds the bus, or is the only one that it can be granted to, and can put something
-/// out then.
+/// One node alone holds the bus, the sender if there is one, or is the only one that it can be granted
+/// to, and can put something out then.
 fn hold_alone(random: &mut Random, bus: &mut Bus, nodes: u8) {
-    let node = random.byte(0, nodes - 1);
+    let node = match bus.phase {
+        Phase::Delivering { sender, .. } => sender,
+        _ => random.byte(0, nodes - 1),
+    };
     let alone = Marks(1 << node);
-    (bus.holder, bus.pending) =
-        random.pick(&[(alone, Marks::default()), (Marks::default(), alone)]);
+    (bus.holder, bus.pending) = match bus.phase {
+        Phase::Granting => random.pick(&[(alone, Marks::default()), (Marks::default(), alone)]),
+        _ => (alone, bus.pending),
+    };
     let sending = Mode::Sending { step: random.byte(0, 5) };
     let last = Mode::Sending { step: 5 };
     let acking = Mode::Acking { step: random.byte(0, 2), ack: 3, hold: random.percent(50) };
@@ -228,7 +238,21 @@ fn hold_alone(random: &mut Random, bus: &mut Bus, nodes: u8) {
     bus.nodes[usize::from(node)].mode = random.pick(&[sending, last, acking, other]);
 }
 
-/// A mode that many nodes have: one by which much is reported, most of the time.
+/// A mode that many nodes have: one in which this signal is the next.
+fn awaiting(random: &mut Random, signal: Signal) -> Mode {
+    let head = head(random);
+    match signal {
+        Signal::Start => random.pick(&[Mode::Rest, Mode::AwaitAck, Mode::Listening]),
+        Signal::Dhead => Mode::Opened,
+        Signal::Dest(_) => Mode::Addressed,
+        Signal::Header(..) => random.pick(&[Mode::HeadOwn, Mode::HeadAll]),
+        Signal::Data(..) => random.pick(&[Mode::BodyOwn { head }, Mode::BodyAll { head }]),
+        Signal::Ack(..) => Mode::AckBody,
+        Signal::End | Signal::Prefix | Signal::Gap => often(random),
+    }
+}
+
+/// Another one: one by which much is reported, most of the time.
 fn often(random: &mut Random) -> Mode {
     let head = head(random);
     let data = random.word();
@@ -237,6 +261,8 @@ fn often(random: &mut Random) -> Mode {
         any,
         Mode::Spurious,
         Mode::Owed,
+        Mode::Addressed,
+        Mode::BodyOwn { head },
         Mode::AckEnd { good: Some(random.byte(0, 15)) },
         Mode::TailOwn { head, data: Some(data) },
         Mode::TailOwn { head, data: None },
@@ -336,7 +362,7 @@ fn signal(random: &mut Random, n: u8) -> Signal {
 fn others(random: &mut Random, bus: &mut Bus) {
     let of_nodes: Vec<Flawed> = FLAWS.into_iter().filter(|flawed| flawed.is_of_a_node()).collect();
     for node in bus.n.clamp(2, NODES)..NODES {
-        let style = Style { asked: 40, ..Style::random(random) };
+        let style = Style { asked: 40, ..Style::random(random, bus.phase) };
         bus.nodes[usize::from(node)] = style.node(random, NODES);
         if random.percent(50) {
             let flawed = random.pick(&of_nodes);

@@ -10,7 +10,7 @@ use super::driver::{Driver, Style};
 use super::random::Random;
 use crate::bus::{Action, Bus, Packet, Record, ALL_NODES};
 use crate::runfile::{self, BLOCK, FULL};
-pub use closed::{kept_closed, phase_name, signal_name, Closed, KEPT_CLOSED};
+pub use closed::{at_rest, kept_closed, phase_name, signal_name, Closed, KEPT_CLOSED};
 pub use damage::Damage;
 
 /// Numbers that can end a file whose actions are looked at and not played.

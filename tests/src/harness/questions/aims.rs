@@ -159,12 +159,9 @@ fn not_open(name: &str) -> String {
     format!("refused by 7: {name}")
 }
 
-const WHILE_ASKED: &str = "while a node is Asked: none";
-
 pub fn aims() -> Vec<String> {
     let closed = NAMES[1..].iter().map(|name| not_open(name));
-    let answers = answers::aims(&PLACES).into_iter().chain([WHILE_ASKED.into()]);
-    all().names().into_iter().chain(closed).chain(answers).collect()
+    all().names().into_iter().chain(closed).chain(answers::aims(&PLACES)).collect()
 }
 
 /// What a wrong text has hit.
@@ -182,8 +179,5 @@ pub fn hits_of_fault(text: &[u8], complaint: &Complaint) -> Vec<String> {
 pub fn hits_of_answer(text: &[u8], asked: &Asked, route: &Route) -> Vec<String> {
     let mut hits = all().hits(&Seen::new(text, None));
     hits.extend(answers::hits(&asked.bus, &asked.question, route));
-    if asked.bus.asked().next().is_some() && route.is_none() {
-        hits.push(WHILE_ASKED.into());
-    }
     hits
 }

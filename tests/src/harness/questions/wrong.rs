@@ -91,12 +91,12 @@ impl Wrong {
         all.extend([Wrong::NoNode, Wrong::Extra, Wrong::Extra, Wrong::Repeat, Wrong::BeforeNodes]);
         all.extend((0..=FIND).map(Wrong::After));
         let of = |place| WrongRun::all().into_iter().filter(move |wrong| after(wrong) == place);
-        all.extend(of(After::Refused).map(Wrong::RefusedAfter));
+        all.extend(of(After::Refused).step_by(2).map(Wrong::RefusedAfter));
         all.extend(of(After::Itself).step_by(5).map(Wrong::WrongAfter));
         all.extend([7, 7, 8, 9, 63, 128, 255].map(Wrong::Depth));
         all.extend([9, 9, 10, 16, 62, 63].map(Wrong::Nodes));
         all.extend((2..=MOST_NODES).map(Wrong::Node));
-        all.extend(Closed::all().into_iter().step_by(3).map(Wrong::NotOpen));
+        all.extend(Closed::all().into_iter().step_by(5).map(Wrong::NotOpen));
         all.extend((1..=KINDS).map(Wrong::NotOpenAgain));
         all
     }

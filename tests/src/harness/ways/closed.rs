@@ -87,16 +87,22 @@ pub const KEPT_CLOSED: [&str; 10] = [
     "reset",
 ];
 
+/// The same bus with the nodes that are Asked in Rest.
+pub fn at_rest(bus: &Bus) -> Bus {
+    let mut at_rest = bus.clone();
+    for node in bus.asked() {
+        at_rest.nodes[usize::from(node)].mode = Mode::Rest;
+    }
+    at_rest
+}
+
 /// What it keeps closed on this bus, each with the action: what would be open if the nodes that are
 /// Asked were in Rest.
 pub fn kept_closed(bus: &Bus) -> Vec<(String, Action)> {
     if bus.asked().next().is_none() {
         return Vec::new();
     }
-    let mut at_rest = bus.clone();
-    for node in bus.asked() {
-        at_rest.nodes[usize::from(node)].mode = Mode::Rest;
-    }
+    let at_rest = at_rest(bus);
     let kept = |action: &Action| at_rest.is_open(*action);
     let signal = match bus.phase {
         Phase::Delivering { signal, .. } => signal_name(signal),
