@@ -53,24 +53,39 @@ fn of_way(way: StateWay) -> String {
     format!("{way:?}")
 }
 
-/// Questions in one sequence, in turn by all ways.
+/// Questions in one sequence.
+struct Sequence {
+    /// The number of the first.
+    first: u64,
+    ways: Vec<StateWay>,
+    handed: Vec<Handed>,
+    bytes: Vec<u8>,
+}
+
+impl Sequence {
+    /// The one with this number, in turn by all ways.
+    fn make(options: &Options, index: u64, random: &mut Random) -> Sequence {
+        let first = index * AT_ONCE;
+        let all = StateWay::all();
+        let way = |state: u64| all[state as usize % all.len()];
+        let ways: Vec<StateWay> = (first..options.states.min(first + AT_ONCE)).map(way).collect();
+        let handed: Vec<Handed> = ways.iter().map(|way| way.make(random)).collect();
+        let mut bytes: Vec<u8> = handed.iter().flat_map(|handed| handed.bytes).collect();
+        // "Bytes at the end that are no whole question are not answered."
+        bytes.extend(&handed[0].bytes[..random.below(LENGTH as u64) as usize]);
+        Sequence { first, ways, handed, bytes }
+    }
+}
+
 fn some_states(options: &Options, index: u64, path: &Path, hits: &mut Hits) -> Result<(), String> {
     let mut random = Random::of(options.seed.rotate_left(37), index);
-    let first = index * AT_ONCE;
-    let ways = StateWay::all();
-    let ways: Vec<StateWay> = (first..options.states.min(first + AT_ONCE))
-        .map(|state| ways[state as usize % ways.len()])
-        .collect();
-    let handed: Vec<Handed> = ways.iter().map(|way| way.make(&mut random)).collect();
-    let mut bytes: Vec<u8> = handed.iter().flat_map(|handed| handed.bytes).collect();
-    // "Bytes at the end that are no whole question are not answered."
-    bytes.extend(handed[0].bytes.iter().take(random.below(2 * LENGTH as u64) as usize % LENGTH));
-    let fail = |place: u64, kept: &[u8], why: String| {
-        let name = format!("model-seed-{}-state-{}.bytes", options.seed, first + place);
+    let Sequence { first, ways, handed, bytes } = Sequence::make(options, index, &mut random);
+    let fail = |state: u64, kept: &[u8], why: String| {
+        let name = format!("model-seed-{}-state-{state}.bytes", options.seed);
         let kept = child::keep(&name, kept);
-        format!("seed {}, state {}: {why}\n{kept}", options.seed, first + place)
+        format!("seed {}, state {state}: {why}\n{kept}", options.seed)
     };
-    let whole = |why| fail(0, &bytes, why);
+    let whole = |why| fail(first, &bytes, why);
     let input = child::input(&bytes, index, path, &mut random).map_err(whole)?;
     let ran = run(options.program, &[], input, 0).map_err(whole)?;
     if let Some(why) = difference(&ran, &ran.text, b"") {
@@ -79,10 +94,9 @@ fn some_states(options: &Options, index: u64, path: &Path, hits: &mut Hits) -> R
     let answers = split(&ran.text, handed.len()).map_err(whole)?;
     for (place, (handed, theirs)) in handed.iter().zip(answers).enumerate() {
         let one =
-            |why: String| fail(place as u64, &handed.bytes, format!("{:?}: {why}", ways[place]));
+            |why| fail(first + place as u64, &handed.bytes, format!("{:?}: {why}", ways[place]));
         let names = one_state(handed, theirs).map_err(one)?;
-        names.into_iter().for_each(|name| hits.enter(name));
-        hits.enter(of_way(ways[place]));
+        names.into_iter().chain([of_way(ways[place])]).for_each(|name| hits.enter(name));
     }
     Ok(())
 }
