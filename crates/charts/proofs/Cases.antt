@@ -35,7 +35,7 @@ use Rattle.charts.specs.Step.{Result, Event, refuses, play, look, step, 
 use Rattle.charts.specs.Demand as Demand
 use Rattle.charts.specs.Demand.{history, allForward, meetsIdle}
 use Rattle.charts.specs.Stretch.{Witnessed}
-use Rattle.charts.specs.Routes.{IsRoute, gives, routeNumber}
+use Rattle.charts.specs.Routes.{IsRoute, gives, isBusEvent, lastReport, routeNumber}
 use Rattle.charts.proofs.Whole.{every-confirmation-of}
 use Rattle.charts.proofs.Steps as S
 use Rattle.charts.proofs.Steps.{Stepped, stepped}
@@ -364,3 +364,12 @@ questions-hold = refl
 pub lost-ack : IsRoute (after (fresh 2) (take 19 (b 0))) (record { word = W.Miss; node = 0 }) 3 (lose ∷ clock 1 ∷ pass ∷ [])
 unfolding step look play outcome Actions.request Actions.arbitrate Actions.respond Actions.clock Actions.carry Actions.grant Actions.gap Actions.reset Actions.ask Actions.decide output arrives hears clean moveOf read valid phaseFits cellFits modeFits gives
 lost-ack = record { within = lit≤ tt; kinds = refl; accepted = refl; reports = refl }
+
+-- it is node 0's miss: not node 1's, and no ack of node 0
+pub no-other : map (λ q. gives q (lastReport Silent (results (after (fresh 2) (take 19 (b 0))) (lose ∷ clock 1 ∷ pass ∷ [])))) (record { word = W.Miss; node = 1 } ∷ record { word = W.Ack; node = 0 } ∷ []) ≡ false ∷ false ∷ []
+unfolding step look play outcome Actions.request Actions.arbitrate Actions.respond Actions.clock Actions.carry Actions.grant Actions.gap Actions.reset Actions.ask Actions.decide output arrives hears clean moveOf read valid phaseFits cellFits modeFits gives
+no-other = refl
+
+-- "kinds 4 to 9"
+pub bus-events : map isBusEvent (respond 0 0 0 ∷ clock 0 ∷ pass ∷ lose ∷ change 0 ∷ grant ∷ gap ∷ reset ∷ []) ≡ false ∷ true ∷ true ∷ true ∷ true ∷ true ∷ true ∷ false ∷ []
+bus-events = refl
