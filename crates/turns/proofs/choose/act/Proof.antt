@@ -29,12 +29,12 @@ returns-2 : tie.Need-returns-2
 unfolding acts
 returns-2 c = simp (← c .before .before .before .before .before .before .before .is-answering .ensures, ← c .before .before .before .before .both .ensures, c .before .before .before .if1 .left, ← c .before .before .is-holding .ensures, c .before .if2 .taken, c .request .ensures)
 
-of-node-requires : tie.Need-of-node-requires
-of-node-requires c κs = search needs
+named-requires : tie.Need-named-requires
+named-requires c κs = search needs
 
 returns-3 : tie.Need-returns-3
 unfolding acts
-returns-3 c = simp (← c .before .before .before .before .before .before .before .is-answering .ensures, ← c .before .before .before .before .both .ensures, c .before .before .before .if1 .left, ← c .before .before .is-holding .ensures, c .before .if2 .left, c .of-node .ensures)
+returns-3 c = simp (← c .before .before .before .before .before .before .before .is-answering .ensures, ← c .before .before .before .before .both .ensures, c .before .before .before .if1 .left, ← c .before .before .is-holding .ensures, c .before .if2 .left, c .named .ensures)
 
 pub act-spec : {M : Type 1} → statement M
 act-spec =
@@ -48,5 +48,5 @@ act-spec =
     is-holding-requires
     request-requires
     returns-2
-    of-node-requires
+    named-requires
     returns-3)

@@ -24,14 +24,14 @@ deliver-requires c κs = search needs
 enum-told-3 : tie.Need-enum-told-3
 enum-told-3 c = search needs
 
-of-node-requires : tie.Need-of-node-requires
-of-node-requires c κs = search needs
+named-requires : tie.Need-named-requires
+named-requires c κs = search needs
 
 enum-told-4 : tie.Need-enum-told-4
 enum-told-4 c = search needs
 
-of-node-requires-2 : tie.Need-of-node-requires-2
-of-node-requires-2 c κs = search needs
+named-requires-2 : tie.Need-named-requires-2
+named-requires-2 c κs = search needs
 
 returns : tie.Need-returns
 unfolding choosesAt
@@ -47,11 +47,11 @@ returns-3 c = simp (c .before .before .phase .given .1, c .deliver .ensures)
 
 returns-4 : tie.Need-returns-4
 unfolding choosesAt
-returns-4 c = simp (c .before .enum-told3 .given .1, c .of-node .ensures)
+returns-4 c = simp (c .before .enum-told3 .given .1, c .named .ensures)
 
 returns-5 : tie.Need-returns-5
 unfolding choosesAt
-returns-5 c = simp (c .before .enum-told4 .given .1, c .of-node2 .ensures)
+returns-5 c = simp (c .before .enum-told4 .given .1, c .named2 .ensures)
 
 pub choose-spec : {M : Type 1} → statement M
 choose-spec =
@@ -64,9 +64,9 @@ choose-spec =
     enum-known-phase
     deliver-requires
     enum-told-3
-    of-node-requires
+    named-requires
     enum-told-4
-    of-node-requires-2
+    named-requires-2
     returns
     returns-2
     returns-3

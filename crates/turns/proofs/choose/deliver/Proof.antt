@@ -11,17 +11,17 @@ is-due-requires c κs = search needs
 both-requires : tie.Need-both-requires
 both-requires c κs = search needs
 
-of-node-requires : tie.Need-of-node-requires
-of-node-requires c κs = search needs
+named-requires : tie.Need-named-requires
+named-requires c κs = search needs
 
 returns : tie.Need-returns
-returns c = simp (← c .before .before .before .before .is-checked .ensures, ← c .before .before .before .is-due .ensures, ← c .before .before .both .ensures, c .before .if1 .taken, c .of-node .ensures)
+returns c = simp (← c .before .before .before .before .is-checked .ensures, ← c .before .before .before .is-due .ensures, ← c .before .before .both .ensures, c .before .if1 .taken, c .named .ensures)
 
-of-node-requires-2 : tie.Need-of-node-requires-2
-of-node-requires-2 c κs = search needs
+named-requires-2 : tie.Need-named-requires-2
+named-requires-2 c κs = search needs
 
 returns-2 : tie.Need-returns-2
-returns-2 c = simp (← c .before .before .before .before .is-checked .ensures, ← c .before .before .before .is-due .ensures, ← c .before .before .both .ensures, c .before .if1 .left, c .of-node2 .ensures)
+returns-2 c = simp (← c .before .before .before .before .is-checked .ensures, ← c .before .before .before .is-due .ensures, ← c .before .before .both .ensures, c .before .if1 .left, c .named2 .ensures)
 
 pub deliver-spec : {M : Type 1} → statement M
 deliver-spec =
@@ -30,7 +30,7 @@ deliver-spec =
     is-checked-requires
     is-due-requires
     both-requires
-    of-node-requires
+    named-requires
     returns
-    of-node-requires-2
+    named-requires-2
     returns-2)

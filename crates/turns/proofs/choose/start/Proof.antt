@@ -21,19 +21,19 @@ returns c = simp (other-way (c .before .before .before .before .is-full .result)
 both-requires-2 : tie.Need-both-requires-2
 both-requires-2 c κs = search needs
 
-of-node-requires : tie.Need-of-node-requires
-of-node-requires c κs = search needs
+named-requires : tie.Need-named-requires
+named-requires c κs = search needs
 
 returns-2 : tie.Need-returns-2
 unfolding startsAt
-returns-2 c = simp (other-way (c .before .before .before .before .before .before .before .is-full .result) (isEmpty (c .before .before .before .before .before .before .before .before .args .c .buffer)) (c .before .before .before .before .before .before .before .is-full .ensures), not-not, ← c .before .before .before .before .before .both .ensures, c .before .before .before .before .if1 .left, ← c .before .before .both2 .ensures, c .before .if2 .taken, c .of-node .ensures)
+returns-2 c = simp (other-way (c .before .before .before .before .before .before .before .is-full .result) (isEmpty (c .before .before .before .before .before .before .before .before .args .c .buffer)) (c .before .before .before .before .before .before .before .is-full .ensures), not-not, ← c .before .before .before .before .before .both .ensures, c .before .before .before .before .if1 .left, ← c .before .before .both2 .ensures, c .before .if2 .taken, c .named .ensures)
 
-of-node-requires-2 : tie.Need-of-node-requires-2
-of-node-requires-2 c κs = search needs
+named-requires-2 : tie.Need-named-requires-2
+named-requires-2 c κs = search needs
 
 returns-3 : tie.Need-returns-3
 unfolding startsAt
-returns-3 c = simp (other-way (c .before .before .before .before .before .before .before .is-full .result) (isEmpty (c .before .before .before .before .before .before .before .before .args .c .buffer)) (c .before .before .before .before .before .before .before .is-full .ensures), not-not, ← c .before .before .before .before .before .both .ensures, c .before .before .before .before .if1 .left, ← c .before .before .both2 .ensures, c .before .if2 .left, c .of-node2 .ensures)
+returns-3 c = simp (other-way (c .before .before .before .before .before .before .before .is-full .result) (isEmpty (c .before .before .before .before .before .before .before .before .args .c .buffer)) (c .before .before .before .before .before .before .before .is-full .ensures), not-not, ← c .before .before .before .before .before .both .ensures, c .before .before .before .before .if1 .left, ← c .before .before .both2 .ensures, c .before .if2 .left, c .named2 .ensures)
 
 pub start-spec : {M : Type 1} → statement M
 start-spec =
@@ -44,7 +44,7 @@ start-spec =
     request-requires
     returns
     both-requires-2
-    of-node-requires
+    named-requires
     returns-2
-    of-node-requires-2
+    named-requires-2
     returns-3)
