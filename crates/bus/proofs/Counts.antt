@@ -31,7 +31,7 @@ use Rattle.charts.proofs.Sums.{undecided-upd, count-le, count-some}
 use Rattle.charts.proofs.Progress.{remarked-undecided}
 use Rattle.bus.specs.Advance.{glance, advanceOf}
 use Rattle.bus.specs.Asking.{places, askersIn, more, askedAfter}
-use Rattle.bus.specs.Plans.{Fits}
+use Rattle.deciding.specs.Plans.{Fits}
 use Rattle.bus.proofs.ReadLaws.{ready-read}
 
 -- none is Asked that has no place in the arrays

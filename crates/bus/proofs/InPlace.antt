@@ -23,10 +23,10 @@ use Rattle.charts.specs.Step.{stepWith, someAsked}
 use Rattle.charts.specs.View.{view, cellOf, mark, freshNode, Sized}
 use Rattle.link.specs.Reading.{cells, heardBy}
 use Rattle.link.proofs.Reading.{table-hears}
-use Rattle.bus.specs.declared.plans.Plan.{Plan}
+use Rattle.deciding.specs.declared.plans.Plan.{Plan}
 use Rattle.bus.specs.Advance.{glance, advanceOf}
-use Rattle.bus.specs.Marks.{unmarked, clearsMisled, clearsWon}
-use Rattle.bus.specs.Plans.{Ready, aimed, planned, tried}
+use Rattle.deciding.specs.Marks.{unmarked, clearsMisled, clearsWon}
+use Rattle.deciding.specs.Plans.{Ready, aimed, planned, tried}
 use Rattle.bus.proofs.ReadLaws.{clearing-fits}
 use Rattle.bus.proofs.ViewLaws.{view-n, view-phase, stored, resultOf, carried}
 

@@ -1,7 +1,4 @@
-pub mod MarkLaws
 pub mod PhaseLaws
-pub mod Got
-pub mod Decided
 pub mod ReadLaws
 pub mod ViewLaws
 pub mod Advances

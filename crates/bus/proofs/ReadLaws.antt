@@ -18,9 +18,9 @@ use Rattle.charts.specs.Step.{look}
 use Rattle.charts.specs.State.{every}
 use Rattle.charts.specs.Valid.{isSize, cellFits, phaseFits, valid}
 use Rattle.charts.specs.View.{view, mark}
-use Rattle.bus.specs.declared.plans.Plan.{Plan}
+use Rattle.deciding.specs.declared.plans.Plan.{Plan}
 use Rattle.bus.specs.Advance.{glance}
-use Rattle.bus.specs.Plans.{Ready, planned}
+use Rattle.deciding.specs.Plans.{Ready, planned}
 use Rattle.charts.proofs.Tools.{and-true}
 use Rattle.charts.proofs.Steps.{Decodes, taken, decodes, target-lt}
 use Rattle.bus.proofs.PhaseLaws.{next-below}

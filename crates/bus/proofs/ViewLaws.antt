@@ -20,9 +20,9 @@ use Rattle.charts.specs.Actions.{Outcome, closed, does}
 use Rattle.charts.specs.State.{State, upd, moved, concatenatedAfter, remarked, wons, pendings, holders, fresh, freshCell}
 use Rattle.charts.specs.Step.{Result, play, stepWith, carryOut, about, someAsked, comesTo}
 use Rattle.charts.specs.View.{view, cellOf, mark, freshNode, Sized}
-use Rattle.bus.specs.declared.plans.Plan.{Plan}
-use Rattle.bus.specs.Marks.{unmarked, clearsMisled, clearsWon}
-use Rattle.bus.specs.Plans.{settled, aimed, planned}
+use Rattle.deciding.specs.declared.plans.Plan.{Plan}
+use Rattle.deciding.specs.Marks.{unmarked, clearsMisled, clearsWon}
+use Rattle.deciding.specs.Plans.{settled, aimed, planned}
 use Rattle.charts.proofs.Views.{getD-set}
 
 pub view-n : (b : Bus) → view b .n ≡ b .n

@@ -4,19 +4,12 @@ ghost use Rattle.charts.specs.State.{fresh};
 ghost use Rattle.charts.specs.Step.{begin, look, step, stepWith};
 ghost use Rattle.charts.specs.View.{view, mark, seen, seenBegun};
 ghost use Rattle.bus.specs.Advance.{glance, advanceOf};
-ghost use mathlib.Core.Bool.{_&&_};
 ghost use Prim.Native.Nat.{_<_};
-ghost use lib.Dec.{ltb};
-ghost use lib.ListN.{length};
-ghost use Rattle.bus.specs.Marks.{unmarked};
-ghost use Rattle.link.specs.Reading.{heardBy};
-ghost use Rattle.bus.specs.Plans.{Ready, aimed, tried};
-use crate::plans::Plan;
+ghost use Rattle.deciding.specs.Plans.{Ready, aimed};
 use charts::Action;
 use charts::Begun;
 use charts::Buffer;
 use charts::Bus;
-use charts::Cell;
 use charts::Decoded;
 use charts::Head;
 use charts::Mode;
@@ -24,15 +17,12 @@ use charts::Node;
 use charts::Packet;
 use charts::Phase;
 use charts::Played;
+use deciding::cells;
+use deciding::marks;
+use deciding::plans;
 
-mod actions;
+mod aiming;
 pub mod asking;
-pub mod bools;
-pub mod cells;
-mod decide;
-mod marks;
-pub mod phases;
-pub mod plans;
 pub mod validity;
 
 const WRONG_SIZE: u8 = 1;
@@ -102,12 +92,12 @@ fn carry_out(b: Bus, d: Decoded) -> Played
     let mut misled = b.misled;
     let concatenated = b.concatenated;
     let asked = asking::askers(nodes, n);
-    let i = decide::aim(n, phase, &pending, d);
+    let i = aiming::aim(n, phase, &pending, d);
     let at = i as usize;
     let node = nodes[at];
     let c = cells::cell_of(node, won[at], pending[at], holder[at], misled[at]);
     let table = link::table::table();
-    let plan = decide::decide(
+    let plan = deciding::plan(
         &table,
         n,
         phase,
@@ -127,8 +117,8 @@ fn carry_out(b: Bus, d: Decoded) -> Played
     holder[at] = next.holder;
     misled[at] = next.misled;
     let marking = plan.marking;
-    clear(&mut misled, plans::clears_misled(marking), n);
-    clear(&mut won, plans::clears_won(marking), n);
+    marks::clear(&mut misled, plans::clears_misled(marking), n);
+    marks::clear(&mut won, plans::clears_won(marking), n);
     let phase_then = plan.phase;
     let report = plan.report;
     let then = Bus {
@@ -197,51 +187,9 @@ pub fn aim(n: u8, phase: Phase, pending: &[bool; 63], a: Action) -> Aimed
     ensures { λ r. ⌜ r .node < 63 ⌝ }
 {
     let decoded = glance(n, phase, a);
-    let node = decide::aim(n, phase, pending, decoded);
+    let node = aiming::aim(n, phase, pending, decoded);
     Aimed {
         node: node,
         decoded: decoded,
-    }
-}
-
-// What `advance` makes of that node, whose cell is c, by a table of the reception chart; `asked` says whether some node is Asked. (proofs/InPlace.antt:
-// carrying the plan out on the arrays, with the chart's own table, is `advance`.) A player takes the table once, and lends it with each action.
-pub fn plan(
-    table: &[u16; 350],
-    n: u8,
-    phase: Phase,
-    concatenated: bool,
-    asked: bool,
-    i: u8,
-    c: Cell,
-    won: &[bool; 63],
-    pending: &[bool; 63],
-    holder: &[bool; 63],
-    d: Decoded,
-) -> Plan
-    ensures { λ r. ⌜ r ≡ tried (heardBy (now (table .entry))) n phase concatenated asked i c (mark (now (won .entry))) (mark (now (pending .entry))) (mark (now (holder .entry))) d ⌝ }
-{
-    decide::decide(
-        table,
-        n,
-        phase,
-        concatenated,
-        asked,
-        i,
-        c,
-        won,
-        pending,
-        holder,
-        d,
-    )
-}
-
-// Clears the marks of all nodes if it is asked; a bus has at most 63 of them.
-pub fn clear(marks: &mut [bool; 63], asked: bool, n: u8)
-    ensures { λ _. ⌜ length (now (marks .exit)) ≡ length (now (marks .entry)) ⌝ }
-    ensures { λ _. ⌜ mark (now (marks .exit)) ≡ unmarked (asked && ltb n 64) n (mark (now (marks .entry))) ⌝ }
-{
-    if bools::both(asked, n < 64) {
-        marks::wipe(marks, n);
     }
 }

@@ -5,9 +5,6 @@ ghost use Prim.Native.Nat.{_≤_};
 ghost use Rattle.charts.specs.State.{every};
 ghost use Rattle.charts.specs.Valid.{isSize, isAck, seenFits, modeFits, packetFits, bufferFits, cellFits, signalFits, phaseFits, valid};
 ghost use Rattle.charts.specs.View.{view, cellOf};
-ghost use Rattle.bus.specs.Plans.{isReady};
-use crate::bools;
-use crate::phases;
 use charts::Buffer;
 use charts::Bus;
 use charts::Mode;
@@ -16,6 +13,7 @@ use charts::Packet;
 use charts::Phase;
 use charts::Seen;
 use charts::Signal;
+use deciding::bools;
 
 // "n not 2–63" is refused.
 pub(crate) fn is_size(n: u8) -> bool
@@ -136,13 +134,6 @@ pub(crate) fn is_safe(n: u8, phase: Phase) -> bool
     ensures { λ r. ⌜ r ≡ (isSize n && phaseFits n phase) ⌝ }
 {
     bools::both(is_size(n), phase_fits(n, phase))
-}
-
-// What indexing by a plan needs.
-pub(crate) fn is_ready(n: u8, phase: Phase, i: u8) -> bool
-    ensures { λ r. ⌜ r ≡ isReady n phase i ⌝ }
-{
-    bools::both(n < 64, bools::both(phases::next_of(phase) < 63, i < 63))
 }
 
 fn nodes_fit(b: Bus) -> bool

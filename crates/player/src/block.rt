@@ -70,8 +70,8 @@ pub(crate) fn play_actions(
         let d = aimed.decoded;
         let i = aimed.node as usize;
         let node = nodes[i];
-        let c = bus::cells::cell_of(node, won[i], pending[i], holder[i], misled[i]);
-        let plan = bus::plan(
+        let c = deciding::cells::cell_of(node, won[i], pending[i], holder[i], misled[i]);
+        let plan = deciding::plan(
             &table,
             n,
             phase,
@@ -85,15 +85,15 @@ pub(crate) fn play_actions(
             d,
         );
         let next = plan.cell;
-        nodes[i] = bus::cells::node_of(next);
+        nodes[i] = deciding::cells::node_of(next);
         won[i] = next.won;
         pending[i] = next.pending;
         holder[i] = next.holder;
         misled[i] = next.misled;
         let marking = plan.marking;
-        bus::clear(&mut won, bus::plans::clears_won(marking), n);
-        bus::clear(&mut misled, bus::plans::clears_misled(marking), n);
-        concatenated = bus::plans::concatenated_after(marking, concatenated);
+        deciding::marks::clear(&mut won, deciding::plans::clears_won(marking), n);
+        deciding::marks::clear(&mut misled, deciding::plans::clears_misled(marking), n);
+        concatenated = deciding::plans::concatenated_after(marking, concatenated);
         phase = plan.phase;
         let index = first + k as u64;
         if plan.number != 0 {

@@ -5,11 +5,11 @@ mod search;
 ghost use mathlib.Core.Path.{_≡_};
 ghost use Rattle.charts.specs.Routes.{tooDeep, routeNumber, refusedBy, Answers};
 ghost use Rattle.charts.specs.View.{view};
-use bus::bools::either;
 use charts::Answer;
 use charts::Bus;
 use charts::Question;
 use charts::Report;
+use deciding::bools::either;
 
 const WRONG_NODE: u8 = 4;
 

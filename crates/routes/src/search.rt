@@ -7,13 +7,13 @@ ghost use Rattle.charts.specs.View.{view};
 ghost use Rattle.charts.specs.Valid.{valid};
 ghost use Rattle.routes.specs.Search.{searched, bareTrail, prepended, trailOf};
 use crate::choices;
-use bus::bools::both;
 use charts::Action;
 use charts::Bus;
 use charts::Question;
 use charts::Report;
 use charts::Word;
 use charts::words;
+use deciding::bools::both;
 
 // Whether a route was found, and its records in their places.
 pub(crate) struct Trail {

@@ -66,7 +66,7 @@ pub(crate) fn make_actions(t: Trial, users: Users, done: u32, count: usize) -> M
         let who = turns::scan::actor(n, phase, &full, &won, &left, &stray, &holder);
         let at = who as usize;
         let own = nodes[at];
-        let before = bus::cells::cell_of(own, won[at], pending[at], holder[at], misled[at]);
+        let before = deciding::cells::cell_of(own, won[at], pending[at], holder[at], misled[at]);
         let u = turns::keep::user_at(&spell, &address, &fillers, &hold, &period, who);
         let x = turns::keep::kept_at(&left, &heard, &filled, &made, who);
         let a = turns::choose::choose(phase, concatenated, who, before, u, x);
@@ -78,8 +78,8 @@ pub(crate) fn make_actions(t: Trial, users: Users, done: u32, count: usize) -> M
         let d = aimed.decoded;
         let i = aimed.node as usize;
         let node = nodes[i];
-        let c = bus::cells::cell_of(node, won[i], pending[i], holder[i], misled[i]);
-        let plan = bus::plan(
+        let c = deciding::cells::cell_of(node, won[i], pending[i], holder[i], misled[i]);
+        let plan = deciding::plan(
             &table,
             n,
             phase,
@@ -93,7 +93,7 @@ pub(crate) fn make_actions(t: Trial, users: Users, done: u32, count: usize) -> M
             d,
         );
         let next = plan.cell;
-        nodes[i] = bus::cells::node_of(next);
+        nodes[i] = deciding::cells::node_of(next);
         won[i] = next.won;
         pending[i] = next.pending;
         holder[i] = next.holder;
@@ -101,9 +101,9 @@ pub(crate) fn make_actions(t: Trial, users: Users, done: u32, count: usize) -> M
         full[i] = turns::scan::is_full(next);
         stray[i] = turns::scan::is_stray(next);
         let marking = plan.marking;
-        bus::clear(&mut won, bus::plans::clears_won(marking), n);
-        bus::clear(&mut misled, bus::plans::clears_misled(marking), n);
-        concatenated = bus::plans::concatenated_after(marking, concatenated);
+        deciding::marks::clear(&mut won, deciding::plans::clears_won(marking), n);
+        deciding::marks::clear(&mut misled, deciding::plans::clears_misled(marking), n);
+        concatenated = deciding::plans::concatenated_after(marking, concatenated);
         phase = plan.phase;
         let report = plan.report;
         turns::keep::run_down(&mut left, 1);

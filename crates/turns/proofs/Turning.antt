@@ -35,7 +35,7 @@ use Rattle.charts.proofs.Settings.{is-trial, events-more, tally-more, ran, keep
 use Rattle.bus.specs.Advance.{advanceOf}
 use Rattle.bus.specs.Asking.{places}
 use Rattle.bus.proofs.Advances.{advance-is-step}
-use Rattle.bus.proofs.MarkLaws.{mark-set}
+use Rattle.deciding.proofs.MarkLaws.{mark-set}
 use Rattle.turns.specs.Turns.{at, keptOf, fullIn, strayIn, isFull, isStray, waitsBy, actorBy, choosesAt, checkedIn, filledBy, madeBy, keptAfter, loweredBy, spelled, requestCounted, reportCounted, loadIn, tallyAfter, Allowed, Stands, Marked}
 use Rattle.turns.proofs.Rules.{fulls, waits-is, actor, choice-is, named, names-now, heard-after, made-after, filled-after, Short, counted-is}
 

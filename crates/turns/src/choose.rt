@@ -5,7 +5,6 @@ ghost use Rattle.charts.specs.Demand.{one};
 ghost use Rattle.charts.specs.Trials.{requestBy, respondBy, isDue, delivers, acts};
 ghost use Rattle.turns.specs.Turns.{startsAt, choosesAt};
 use crate::scan::is_full;
-use bus::bools::both;
 use charts::Action;
 use charts::Cell;
 use charts::Kept;
@@ -13,6 +12,7 @@ use charts::Mode;
 use charts::Phase;
 use charts::Signal;
 use charts::User;
+use deciding::bools::both;
 use record::named;
 
 const ARBITRATE: u8 = 2;

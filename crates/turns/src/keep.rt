@@ -8,14 +8,14 @@ ghost use Rattle.charts.specs.Modes.{isAnswering};
 ghost use Rattle.charts.specs.Trials.{isCarried, rises, heardAfter, wonBy};
 ghost use Rattle.charts.specs.View.{mark};
 ghost use Rattle.turns.specs.Turns.{at, userOf, keptOf, capped, checkedIn, filledBy, madeBy, keptAfter, loweredBy, winnerOf, spelled};
-use bus::bools::both;
-use bus::bools::either;
 use charts::Action;
 use charts::Cell;
 use charts::Kept;
 use charts::Phase;
 use charts::Report;
 use charts::User;
+use deciding::bools::both;
+use deciding::bools::either;
 
 const REQUEST: u8 = 1;
 

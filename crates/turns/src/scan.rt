@@ -9,17 +9,17 @@ ghost use Rattle.charts.specs.View.{mark};
 ghost use Rattle.bus.specs.Asking.{places};
 ghost use Rattle.turns.specs.Turns.{at, fullIn, strayIn, isFull, isStray, overs, without, firstOf, waitsBy, placed, actorBy};
 use bus::asking::places;
-use bus::bools::both;
 use charts::Cell;
 use charts::Node;
 use charts::Phase;
+use deciding::bools::both;
 
 // A node with a full buffer; a Spurious holder.
 pub fn is_full(c: Cell) -> bool
     ensures { λ r. ⌜ r ≡ isFull c ⌝ }
 {
     let buffer = c.buffer;
-    !bus::cells::is_empty(buffer)
+    !deciding::cells::is_empty(buffer)
 }
 
 pub fn is_stray(c: Cell) -> bool
@@ -39,7 +39,7 @@ pub fn fulls(nodes: [Node; 63]) -> [bool; 63]
     while k < 63 {
         let x = nodes[k];
         let buffer = x.buffer;
-        marks[k] = !bus::cells::is_empty(buffer);
+        marks[k] = !deciding::cells::is_empty(buffer);
         k += 1;
     }
     marks
@@ -109,7 +109,7 @@ fn lowest(marks: &[bool; 63], n: u8, other: u8) -> u8
 pub fn wait(phase: Phase, full: &[bool; 63], won: &[bool; 63], left: &[u8; 63], n: u8) -> u8
     ensures { λ r. ⌜ r ≡ waitsBy (isIdle phase) (mark (now (full .entry))) (mark (now (won .entry))) (at (now (left .entry))) (places n) ⌝ }
 {
-    if !bus::phases::is_idle(phase) {
+    if !deciding::phases::is_idle(phase) {
         return 0;
     }
     let last = places(n);

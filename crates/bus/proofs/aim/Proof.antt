@@ -1,6 +1,6 @@
 use mathlib.Core.Path.{ap, _∙_}
 use Rattle.charts.specs.View.{mark}
-use Rattle.bus.specs.Plans.{aimed}
+use Rattle.deciding.specs.Plans.{aimed}
 use Rattle.bus.proofs.ReadLaws.{ready-glance}
 use borrow.Author.Needs.{needs}
 use Rattle.bus.proofs.aim.Statement.{statement}

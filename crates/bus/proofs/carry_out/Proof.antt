@@ -9,18 +9,18 @@ use Rattle.bus.proofs.carry_out.Tie as tie
 use Rattle.bus.proofs.carry_out.Lts as lts
 use Rattle.bus.proofs.carry_out.Reads as reads
 use Rattle.bus.proofs.asking.askers.Reads as askers-reads
-use Rattle.bus.proofs.decide.aim.Reads as aim-reads
-use Rattle.bus.proofs.cells.cell_of.Reads as cell-of-reads
+use Rattle.bus.proofs.aiming.aim.Reads as aim-reads
+use Rattle.deciding.proofs.cells.cell_of.Reads as cell-of-reads
 use Rattle.link.proofs.table.table.Reads as table-reads
-use Rattle.bus.proofs.decide.decide.Reads as decide-reads
-use Rattle.bus.proofs.cells.node_of.Reads as node-of-reads
-use Rattle.bus.proofs.plans.clears_misled.Reads as clears-misled-reads
-use Rattle.bus.proofs.clear.Reads as clear-reads
-use Rattle.bus.proofs.plans.clears_won.Reads as clears-won-reads
-use Rattle.bus.proofs.plans.concatenated_after.Reads as concatenated-after-reads
+use Rattle.deciding.proofs.plan.Reads as plan-reads
+use Rattle.deciding.proofs.cells.node_of.Reads as node-of-reads
+use Rattle.deciding.proofs.plans.clears_misled.Reads as clears-misled-reads
+use Rattle.deciding.proofs.marks.clear.Reads as clear-reads
+use Rattle.deciding.proofs.plans.clears_won.Reads as clears-won-reads
+use Rattle.deciding.proofs.plans.concatenated_after.Reads as concatenated-after-reads
 
 -- what owning the record tells of its arrays; stated apart, where little else is known, since the search looks through all of it
-sized : (c : lts.Start (askers-reads.Asked, askers-reads.Learnt, aim-reads.Asked, aim-reads.Learnt, cell-of-reads.Asked, cell-of-reads.Learnt, table-reads.Asked, table-reads.Learnt, decide-reads.Asked, decide-reads.Learnt, node-of-reads.Asked, node-of-reads.Learnt, clears-misled-reads.Asked, clears-misled-reads.Learnt, clear-reads.Asked, clear-reads.Learnt, clears-won-reads.Asked, clears-won-reads.Learnt, concatenated-after-reads.Asked, concatenated-after-reads.Learnt) reads.Pre reads.Post) → Sized (c .args .b)
+sized : (c : lts.Start (askers-reads.Asked, askers-reads.Learnt, aim-reads.Asked, aim-reads.Learnt, cell-of-reads.Asked, cell-of-reads.Learnt, table-reads.Asked, table-reads.Learnt, plan-reads.Asked, plan-reads.Learnt, node-of-reads.Asked, node-of-reads.Learnt, clears-misled-reads.Asked, clears-misled-reads.Learnt, clear-reads.Asked, clear-reads.Learnt, clears-won-reads.Asked, clears-won-reads.Learnt, concatenated-after-reads.Asked, concatenated-after-reads.Learnt) reads.Pre reads.Post) → Sized (c .args .b)
 sized c = record { nodes-size = search (needs, length-mapped); won-size = search needs; pending-size = search needs; holder-size = search (needs, c .good .0 .1 .1 .1 .1); misled-size = search (needs, c .good .0 .1 .1 .1 .1) }
 
 askers-requires : tie.Need-askers-requires
@@ -56,8 +56,8 @@ cell-of-requires c κs = search needs
 table-requires : tie.Need-table-requires
 table-requires c κs = search needs
 
-decide-requires : tie.Need-decide-requires
-decide-requires c κs = search needs
+plan-requires : tie.Need-plan-requires
+plan-requires c κs = search needs
 
 node-of-requires : tie.Need-node-of-requires
 node-of-requires c κs = search needs
@@ -102,7 +102,7 @@ returns c =
     let aim = c .before .before .before .before .before .before .before .before .before .before .before .before .before .before .before .before .before .aim in
     let cell = c .before .before .before .before .before .before .before .before .before .before .before .before .before .before .before .cell-of in
     let table = c .before .before .before .before .before .before .before .before .before .before .before .before .before .before .table in
-    let plan = c .before .before .before .before .before .before .before .before .before .decide in
+    let plan = c .before .before .before .before .before .before .before .before .before .plan in
     let node = c .before .before .before .before .before .before .before .node-of in
     let asks-misled = c .before .before .before .before .before .clears-misled in
     let asks-won = c .before .before .clears-won in
@@ -126,7 +126,7 @@ carry-out-spec =
     array-read-cell-of-4
     cell-of-requires
     table-requires
-    decide-requires
+    plan-requires
     node-of-requires
     mul-nodes
     array-set-from-nodes

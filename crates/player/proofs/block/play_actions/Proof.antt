@@ -15,7 +15,7 @@ use Rattle.charts.specs.State.{State}
 use Rattle.charts.specs.View.{view, seen, mark, Sized}
 use Rattle.link.specs.Reading.{heardBy}
 use Rattle.bus.specs.Advance.{glance, advanceOf}
-use Rattle.bus.specs.Plans.{tried}
+use Rattle.deciding.specs.Plans.{tried}
 use Rattle.bus.specs.Asking.{askersIn, askedAfter}
 use Rattle.bus.proofs.ViewLaws.{length-mapped}
 use Rattle.bus.proofs.ReadLaws.{ready-glance}
@@ -37,13 +37,13 @@ use Rattle.link.proofs.table.table.Reads as table-reads
 use Rattle.bus.proofs.asking.askers.Reads as askers-reads
 use Rattle.bus.proofs.asking.askers_after.Reads as askers-after-reads
 use Rattle.bus.proofs.aim.Reads as aim-reads
-use Rattle.bus.proofs.cells.cell_of.Reads as cell-of-reads
-use Rattle.bus.proofs.cells.node_of.Reads as node-of-reads
-use Rattle.bus.proofs.clear.Reads as clear-reads
-use Rattle.bus.proofs.plan.Reads as plan-reads
-use Rattle.bus.proofs.plans.clears_misled.Reads as clears-misled-reads
-use Rattle.bus.proofs.plans.clears_won.Reads as clears-won-reads
-use Rattle.bus.proofs.plans.concatenated_after.Reads as concatenated-after-reads
+use Rattle.deciding.proofs.cells.cell_of.Reads as cell-of-reads
+use Rattle.deciding.proofs.cells.node_of.Reads as node-of-reads
+use Rattle.deciding.proofs.marks.clear.Reads as clear-reads
+use Rattle.deciding.proofs.plan.Reads as plan-reads
+use Rattle.deciding.proofs.plans.clears_misled.Reads as clears-misled-reads
+use Rattle.deciding.proofs.plans.clears_won.Reads as clears-won-reads
+use Rattle.deciding.proofs.plans.concatenated_after.Reads as concatenated-after-reads
 use Rattle.record.proofs.read_action.Reads as read-action-reads
 use Rattle.transcript.proofs.put_line.Reads as put-line-reads
 use Rattle.transcript.proofs.put_refused.Reads as put-refused-reads

@@ -16,7 +16,7 @@ use Rattle.charts.specs.declared.Played.{Played}
 use Rattle.charts.specs.View.{mark, Sized, usersOf}
 use Rattle.link.specs.Reading.{heardBy}
 use Rattle.bus.specs.Advance.{glance}
-use Rattle.bus.specs.Plans.{tried}
+use Rattle.deciding.specs.Plans.{tried}
 use Rattle.bus.proofs.ReadLaws.{ready-glance}
 use Rattle.bus.proofs.InPlace.{carries, advances}
 use Rattle.trials.specs.Trying.{part}
@@ -25,13 +25,13 @@ use Rattle.trials.proofs.block.make_actions.Tie as tie
 use Rattle.trials.proofs.block.make_actions.Reads as reads
 use Rattle.trials.proofs.block.make_actions.Lts as lts
 use Rattle.bus.proofs.aim.Reads as aim-reads
-use Rattle.bus.proofs.cells.cell_of.Reads as cell-of-reads
-use Rattle.bus.proofs.cells.node_of.Reads as node-of-reads
-use Rattle.bus.proofs.clear.Reads as clear-reads
-use Rattle.bus.proofs.plan.Reads as plan-reads
-use Rattle.bus.proofs.plans.clears_misled.Reads as clears-misled-reads
-use Rattle.bus.proofs.plans.clears_won.Reads as clears-won-reads
-use Rattle.bus.proofs.plans.concatenated_after.Reads as concatenated-after-reads
+use Rattle.deciding.proofs.cells.cell_of.Reads as cell-of-reads
+use Rattle.deciding.proofs.cells.node_of.Reads as node-of-reads
+use Rattle.deciding.proofs.marks.clear.Reads as clear-reads
+use Rattle.deciding.proofs.plan.Reads as plan-reads
+use Rattle.deciding.proofs.plans.clears_misled.Reads as clears-misled-reads
+use Rattle.deciding.proofs.plans.clears_won.Reads as clears-won-reads
+use Rattle.deciding.proofs.plans.concatenated_after.Reads as concatenated-after-reads
 use Rattle.link.proofs.table.table.Reads as table-reads
 use Rattle.record.proofs.write_action.Reads as write-action-reads
 use Rattle.turns.proofs.choose.choose.Reads as choose-reads

@@ -1,6 +1,6 @@
 use borrow.Author.Needs.{needs}
 use Rattle.charts.specs.State.{lowest}
-use Rattle.bus.proofs.MarkLaws.{lowest-more}
+use Rattle.deciding.proofs.MarkLaws.{lowest-more}
 use native.Mathlib.Omega.{arith}
 use mathlib.Core.Path.{_≡_}
 use Prim.Native.Nat.{_≤_, _<_}

@@ -1,0 +1,4 @@
+pub mod Marks
+pub mod Gets
+pub mod Decides
+pub mod Plans
