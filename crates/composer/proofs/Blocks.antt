@@ -10,7 +10,7 @@ use lib.ListN.{length, take, length-append}
 use Rattle.charts.specs.declared.Action.{Action}
 use Rattle.record.specs.Layout.{recordsOf}
 use Rattle.runfile.specs.Write.{writeNumber, blockOf}
-use Rattle.runfile.proofs.Rows.{stored-size, stored-holds}
+use Rattle.files.proofs.Rows.{stored-size, stored-holds}
 use Rattle.notation.specs.declared.Stage.the-variants.{Going}
 use Rattle.composer.specs.declared.Composer.{Composer}
 use Rattle.notation.specs.Words.{limit}

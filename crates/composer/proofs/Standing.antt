@@ -13,9 +13,9 @@ use Rattle.charts.specs.declared.Action.{Action}
 use Rattle.record.specs.Bytes.{bound}
 use Rattle.record.specs.Layout.{recordsOf}
 use Rattle.runfile.specs.Write.{firstRefusal, writeNumber, blockOf}
-use Rattle.runfile.specs.File.{blocksFor, fileFrom, fileOf, AllFit, Taken}
-use Rattle.runfile.proofs.Files as Files
-use Rattle.runfile.proofs.Splits.{file-split}
+use Rattle.files.specs.File.{blocksFor, fileFrom, fileOf, AllFit, Taken}
+use Rattle.files.proofs.Files as Files
+use Rattle.files.proofs.Splits.{file-split}
 use Rattle.notation.specs.Meaning.{Accepts, AllAccepted}
 use Rattle.composer.specs.declared.Composer.{Composer}
 use Rattle.composer.specs.Composer.{putOf, putHeld}

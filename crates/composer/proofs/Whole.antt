@@ -15,7 +15,7 @@ use Rattle.charts.specs.declared.Decoded.the-variants as D
 use Rattle.record.specs.Bytes.{bound}
 use Rattle.record.specs.Layout.{recordsOf}
 use Rattle.runfile.specs.Write.{writeNumber, blockOf}
-use Rattle.runfile.specs.File.{blocksFor, fileFrom, fileOf, Taken}
+use Rattle.files.specs.File.{blocksFor, fileFrom, fileOf, Taken}
 use Rattle.faults.specs.declared.Fault.{Fault}
 use Rattle.faults.specs.declared.Fault.the-variants as F
 use Rattle.notation.specs.declared.Text.the-variants.{Run}

@@ -92,7 +92,7 @@ statementTaken r (L.User i u) = stopped r UnknownWord
 statementTaken r (L.Finds q d) = questionTaken r q d
 statementTaken r (L.Wrong f) = stopped r f
 
--- "Only blank lines and comments may follow the line `find`": another one "that says something, and is not wrong by itself" is a fault
+-- "Only blank lines and comments may follow the line `find`": another one "that says something", and "is right by the grammar of the line alone"
 abbrev pub says : Line → Bool
 says L.Blank = false
 says (L.Nodes m) = true

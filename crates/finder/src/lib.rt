@@ -168,7 +168,7 @@ fn take_statement(f: Finder, said: Line) -> Finder
     }
 }
 
-// Whether a line says something, and is not wrong by itself.
+// Whether a line says something, and is right by the grammar of the line alone.
 fn says(said: Line) -> bool
     ensures { λ r. ⌜ r ≡ says said ⌝ }
 {

@@ -8,10 +8,11 @@ use Rattle.charts.specs.Records.{read}
 use Rattle.charts.specs.declared.Action.{Action}
 use Rattle.charts.specs.declared.Decoded.{Decoded}
 use Rattle.charts.specs.declared.Decoded.the-variants as D
-use Rattle.runfile.specs.Pieces.{pieces}
+use Rattle.files.specs.Pieces.{pieces}
 use Rattle.runfile.specs.Write.{refusedOr, firstRefusal}
-use Rattle.runfile.specs.File.{AllFit, fileOf, IsFile, Taken}
-use Rattle.runfile.proofs.Files.{never-zero, one-file}
+use Rattle.files.specs.File.{AllFit, fileOf, IsFile, Taken}
+use Rattle.runfile.proofs.Loops.{never-zero}
+use Rattle.files.proofs.Files.{one-file}
 use Rattle.notation.specs.Meaning.{actionLines, textOf, run, meaningOf, AllAccepted}
 use Rattle.notation.proofs.Texts.{text-back}
 use Rattle.composer.specs.Composed.{composed}

@@ -18,7 +18,7 @@ use Rattle.charts.specs.Step.{step, play, look}
 use Rattle.record.specs.Layout.{bytesOf, actionAt}
 use Rattle.runfile.specs.Block.{checkOf, headOf, countFits}
 use Rattle.runfile.specs.Write.{bodyOf, blockWith}
-use Rattle.runfile.specs.File.{fileOf}
+use Rattle.files.specs.File.{fileOf}
 use Rattle.transcript.specs.Text.{decimal}
 use Rattle.transcript.specs.Lines.{lineOf, nodesLine, doneLine, refusedLine}
 use Rattle.player.specs.Printed.{printed}

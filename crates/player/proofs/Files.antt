@@ -3,7 +3,7 @@ use mathlib.Core.Path.{_≡_, refl}
 use mathlib.Core.List.{List}
 use Prim.Native.Nat.{ℕ}
 use Rattle.charts.specs.declared.Action.{Action}
-use Rattle.runfile.specs.File.{IsFile}
+use Rattle.files.specs.File.{IsFile}
 use Rattle.walk.proofs.Files.{file-walked}
 use Rattle.player.specs.Printed.{playing, printed, listPrinted}
 

@@ -10,7 +10,7 @@ use Rattle.walk.proofs.Loop as L
 use Rattle.walk.proofs.Loop.{Put}
 use Rattle.player.specs.Printed.{turn}
 use Rattle.player.specs.Feeding.{Part, turnOf}
-pub use Rattle.runfile.proofs.Pieces.{left, left-all, left-none, left-more}
+pub use Rattle.files.proofs.Pieces.{left, left-all, left-none, left-more}
 pub use Rattle.walk.proofs.Loop.{Same, at-start, ends}
 
 module _ (i kind : ℕ) (r : Result) (later : Part) {start buf after : List ℕ} {at end next : ℕ} {whole : Part} (same : Same start at whole buf end (turnOf i kind r later)) where

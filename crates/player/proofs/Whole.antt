@@ -11,7 +11,7 @@ use Rattle.charts.proofs.Steps.{step-n}
 use Rattle.charts.proofs.Tools.{and-true}
 use Rattle.charts.proofs.Validity.{fresh-valid, begin-fresh, valid-kept}
 use Rattle.bus.proofs.Advances.{advance-is-step}
-use Rattle.runfile.specs.Pieces.{pieces}
+use Rattle.files.specs.Pieces.{pieces}
 use Rattle.walk.specs.Feeding.{fedText}
 use Rattle.walk.proofs.Whole as W
 use Rattle.player.specs.Printed.{turn, playing, printed}

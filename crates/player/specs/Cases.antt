@@ -3,7 +3,7 @@ use mathlib.Core.List.{List, [], _∷_, _++_}
 use Prim.Native.Nat.{ℕ}
 use lib.ListN.{replicate}
 use Rattle.charts.specs.declared.Action.{Action}
-use Rattle.runfile.specs.File.{fileOf}
+use Rattle.files.specs.File.{fileOf}
 use Rattle.transcript.specs.Text.{ascii}
 
 -- an action record, and those of the kinds that the cases use, with the fields that each kind names

@@ -7,7 +7,7 @@ use Rattle.charts.specs.State.{State, fresh}
 use Rattle.charts.specs.Step.{Result, begin}
 use Rattle.charts.specs.View.{view}
 use Rattle.bus.specs.Advance.{advanceOf}
-use Rattle.runfile.specs.declared.order.Stage.the-variants.{Unopened}
+use Rattle.files.specs.declared.order.Stage.the-variants.{Unopened}
 use Rattle.transcript.specs.Lines.{doneLine}
 use Rattle.transcript.specs.Room.{Puts}
 use Rattle.walk.specs.Walk.{Walker, nodesOnce}

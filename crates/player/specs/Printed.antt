@@ -6,7 +6,7 @@ use Rattle.charts.specs.State.{State, fresh}
 use Rattle.charts.specs.Step.{Result, step}
 use Rattle.transcript.specs.Lines.{lineOf, doneLine}
 use Rattle.walk.specs.Walk.{Turn, Walker, nodesOnce, walked, listWalked}
-pub use Rattle.runfile.specs.Pieces.{actionsIn}
+pub use Rattle.files.specs.Pieces.{actionsIn}
 
 -- "The player's line: index, kind, then `-` or node and report"
 abbrev pub turn : ℕ → ℕ → Result → Turn State

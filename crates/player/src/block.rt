@@ -7,7 +7,7 @@ ghost use Rattle.walk.specs.Feeding.{openingOf};
 ghost use Rattle.player.specs.Feeding.{advancing, partOf, Plays};
 ghost use Rattle.player.specs.Printed.{actionsIn};
 use charts::Bus;
-use runfile::order::Stage;
+use files::order::Stage;
 
 // The bus that a block's actions find: a fresh one for block 0.
 pub(crate) fn opening(stage: Stage, b: Bus, n: u8) -> Bus

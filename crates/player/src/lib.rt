@@ -6,12 +6,12 @@ ghost use Prim.Native.Nat.{_≤_};
 ghost use lib.ListN.{length};
 ghost use Rattle.transcript.specs.Lines.{doneLine};
 ghost use Rattle.transcript.specs.Room.{put};
-ghost use Rattle.runfile.specs.Order.{isEnded};
+ghost use Rattle.files.specs.Order.{isEnded};
 ghost use Rattle.walk.specs.Feeding.{feedOf, finishOf};
 ghost use Rattle.player.specs.Feeding.{seen, advancing, started};
 use charts::Bus;
-use runfile::order;
-use runfile::order::Stage;
+use files::order;
+use files::order::Stage;
 use walk::Found;
 
 // The player between two pieces: the bus, and how far the file has been played.

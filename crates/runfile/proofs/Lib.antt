@@ -4,11 +4,4 @@ pub mod Traces
 pub mod Stored
 pub mod Parts
 pub mod Written
-pub mod Accepted
-pub mod Lists
-pub mod Files
-pub mod Splits
 pub mod Cases
-pub mod Pieces
-pub mod Stages
-pub mod Rows

@@ -1,14 +1,19 @@
 -- A turn and the end of each loop over a block's bytes. Assumes nothing.
-use mathlib.Core.Path.{_≡_, refl}
-use mathlib.Core.Bool.{Bool, true, false, _&&_}
+use mathlib.Core.Path.{_≡_, refl, subst}
+use mathlib.Core.Bool.{Bool, true, false, true≢false, _&&_}
 use mathlib.Core.List.{List, [], _∷_}
 use Prim.Native.Nat.{ℕ, suc, _+_, _*_, _/_, _%_, _<_, _≤_}
 use native.Mathlib.Omega.{arith}
 use native.Mathlib.Numerals.{add-one}
-use lib.Dec.{ltb}
+use lib.Dec.{eqb, ltb}
 use lib.ListN.{length, take, drop, getD, set, drop-of-length-le}
 use lib.Seq.{slice, slice-cons, length-take-le, drop-cons, sets}
 use borrow.Author.Tests.{ltb-true, eqb-true}
+use Rattle.charts.specs.Records.{read}
+use Rattle.charts.specs.declared.Action.{Action}
+use Rattle.charts.specs.declared.Decoded.{Decoded}
+use Rattle.charts.specs.declared.Decoded.the-variants as D
+use Rattle.charts.proofs.Steps.{Decodes, turned, taken, decodes}
 use Rattle.runfile.specs.Block.{isCount}
 use Rattle.runfile.specs.Write.{isRecords}
 
@@ -57,3 +62,11 @@ pub records-all : (size : ℕ) → isRecords size ≡ true → size ≡ 16 * (si
 records-all size h =
     let g = eqb-true (size % 16) 0 (and-right (isCount (size / 16)) _ h) in
     omega arith
+
+-- no record is refused by 0
+pub never-zero : (n : ℕ) (a : Action) → read n a ≡ D.Refused 0 → ⊥
+never-zero n a = go (decodes n a)
+  where
+    go : {d : Decoded} → Decodes n a d → d ≡ D.Refused 0 → ⊥
+    go (turned {k} e) q = let z : k ≡ 0 = cc in true≢false (subst (λ k. eqb k 0 ≡ false) z e)
+    go (taken x) q = let z : _≡_ {A = ℕ} 0 1 = cc in omega arith

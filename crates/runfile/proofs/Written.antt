@@ -15,9 +15,8 @@ use Rattle.record.proofs.Little.{value-little}
 use Rattle.runfile.specs.declared.BlockHead.the-variants.{Holds}
 use Rattle.runfile.specs.Block.{numberIn, countIn, nIn, checkSum, checkOf, checkIn, isCount, zeros, allZero, usedEnd, headOf, countFits, readBlock, usedBytes}
 use Rattle.runfile.specs.Sums.{sumsFor, sumsOf}
-use Rattle.runfile.specs.Write.{isRecords, firstRefusal, writeNumber, headBytes, bodyOf, sealed, blockWith}
+use Rattle.runfile.specs.Write.{isRecords, firstRefusal, writeNumber, headBytes, bodyOf, sealed, blockWith, ReadsBack}
 use Rattle.record.specs.Layout.{actionsOf}
-use Rattle.runfile.specs.File.{ReadsBack}
 use Rattle.runfile.proofs.Loops.{and-left, records-small, records-all}
 use Rattle.runfile.proofs.Stored.{body-length}
 use Rattle.runfile.proofs.Parts.{past, zeros-zero}

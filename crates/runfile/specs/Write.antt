@@ -15,7 +15,8 @@ use Rattle.charts.specs.declared.Decoded.the-variants as D
 use Rattle.record.specs.Bytes.{little}
 use Rattle.record.specs.Layout.{actionsOf, recordsOf}
 use Rattle.runfile.specs.declared.Summed.{Summed}
-use Rattle.runfile.specs.Block.{isCount, weigh, zeros, checkSum}
+use Rattle.runfile.specs.declared.BlockHead.the-variants.{Holds}
+use Rattle.runfile.specs.Block.{isCount, weigh, zeros, checkSum, readBlock, usedBytes}
 use Rattle.runfile.specs.Sums.{sumsFor, sumsOf}
 
 -- "then 2 to 6 for each action", and 13 "looked at after 5, by the writer too": the first refusal, or 0
@@ -71,3 +72,8 @@ pub record Takes (records : List ℕ) (count : ℕ) (r : Summed) : Type 0 where
   pub stored : r .block ≡ sets (zeros 512) 14 records
   pub summed : r .sum ≡ weigh 14 records
   pub each : r .sums ≡ sumsFor count records
+
+-- a written block reads back: the same number and n, and the action bytes that were given
+pub record ReadsBack (number n : ℕ) (records : List ℕ) : Type 0 where
+  pub head : readBlock (blockWith number n records) ≡ Holds number (length records / 16) n
+  pub used : usedBytes (blockWith number n records) ≡ records

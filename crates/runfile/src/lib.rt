@@ -1,6 +1,4 @@
 // Run files: a block of 512 bytes read and written ("Run files", numbers 1, 8, 9 and 11).
-pub mod order;
-
 ghost use mathlib.Core.Path.{_≡_};
 ghost use mathlib.Core.Bool.{true, cond, _&&_};
 ghost use Prim.Native.Nat.{_+_, _*_, _/_, _<_, _≤_};

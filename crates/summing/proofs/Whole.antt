@@ -14,15 +14,16 @@ use Rattle.charts.specs.declared.Action.{Action}
 use Rattle.charts.specs.declared.Decoded.{Decoded}
 use Rattle.charts.specs.declared.Decoded.the-variants as D
 use Rattle.record.specs.Bytes.{Bytes}
-use Rattle.runfile.specs.File.{blocksFor, Blocks, last, next, IsFile, Taken, fileOf}
-use Rattle.runfile.specs.Pieces.{pieces, Before, none, isFirst}
+use Rattle.files.specs.File.{blocksFor, Blocks, last, next, IsFile, Taken, fileOf}
+use Rattle.files.specs.Pieces.{pieces, Before, none, isFirst}
 use Rattle.runfile.specs.Sums.{sumsOf}
 use Rattle.runfile.specs.Write.{refusedOr, firstRefusal}
-use Rattle.runfile.proofs.Accepted.{shown}
-use Rattle.runfile.proofs.Files.{never-zero, one-file, some-actions, blocks-some, block-only, taken-first, taken-second}
+use Rattle.files.proofs.Accepted.{shown}
+use Rattle.runfile.proofs.Loops.{never-zero}
+use Rattle.files.proofs.Files.{one-file, some-actions, blocks-some, block-only, taken-first, taken-second}
 use Rattle.runfile.proofs.Parts.{bytes-first, bytes-second}
-use Rattle.runfile.proofs.Pieces.{more-pieces, one-piece}
-use Rattle.runfile.proofs.Stages.{At}
+use Rattle.files.proofs.Pieces.{more-pieces, one-piece}
+use Rattle.files.proofs.Stages.{At}
 use Rattle.transcript.specs.Lines.{doneLine}
 use Rattle.figures.specs.Figures.{figuresLine}
 use Rattle.walk.specs.Walk.{walking, walkedFrom}

@@ -8,7 +8,7 @@ use Rattle.charts.specs.Numbers as N
 use Rattle.charts.specs.Records.{read}
 use Rattle.charts.specs.declared.Action.{Action}
 use Rattle.record.specs.Looked.{numberOf}
-use Rattle.runfile.specs.File.{blocksFor}
+use Rattle.files.specs.File.{blocksFor}
 use Rattle.runfile.specs.Sums.{sumsOf}
 use Rattle.runfile.specs.Write.{blockOf}
 use Rattle.transcript.specs.Lines.{doneLine, refusedLine}

@@ -14,11 +14,11 @@ use Rattle.charts.specs.View.{Sized}
 use Rattle.charts.proofs.Settings.{is-trial}
 use Rattle.charts.proofs.Tools.{pick-by}
 use Rattle.record.specs.Layout.{recordsOf}
-use Rattle.runfile.specs.File.{blocksFor, fileFrom, fileOf}
+use Rattle.files.specs.File.{blocksFor, fileFrom, fileOf}
 use Rattle.runfile.specs.Write.{writeNumber, blockWith, blockOf, written}
-use Rattle.runfile.proofs.Accepted.{shown}
-use Rattle.runfile.proofs.Files.{block-accepted, block-taken}
-use Rattle.runfile.proofs.Splits.{file-split}
+use Rattle.files.proofs.Accepted.{shown}
+use Rattle.files.proofs.Files.{block-accepted, block-taken}
+use Rattle.files.proofs.Splits.{file-split}
 use Rattle.turns.specs.Turns.{Allowed, loadIn}
 use Rattle.trials.specs.declared.Tried.{Tried}
 use Rattle.trials.specs.declared.block.Trial.{Trial}

@@ -4,8 +4,8 @@ use Prim.Native.Nat.{ℕ, _≤_}
 use Rattle.charts.specs.declared.User.{User}
 use Rattle.charts.specs.Numbers as N
 use Rattle.charts.specs.Trials.{trial, trialNumber}
-use Rattle.runfile.specs.File.{OneFile}
-use Rattle.runfile.proofs.Files.{one-file}
+use Rattle.files.specs.File.{OneFile}
+use Rattle.files.proofs.Files.{one-file}
 use Rattle.trials.proofs.Allowing.{goes}
 use Rattle.trials.proofs.Taking.{taken}
 

@@ -9,7 +9,7 @@ use Rattle.charts.specs.declared.User.{User}
 use Rattle.charts.specs.Trials.{chosen}
 use Rattle.record.specs.Bytes.{putAt}
 use Rattle.record.specs.Layout.{bytesOf, recordsOf}
-use Rattle.runfile.proofs.Rows.{stored-size, stored-holds}
+use Rattle.files.proofs.Rows.{stored-size, stored-holds}
 use Rattle.trials.specs.Trying.{part}
 
 module _ (us : ℕ → User) (n from : ℕ) where

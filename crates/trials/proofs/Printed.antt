@@ -4,7 +4,7 @@ use Prim.Native.Nat.{ℕ, _≤_}
 use Rattle.charts.specs.declared.User.{User}
 use Rattle.charts.specs.Numbers as N
 use Rattle.charts.specs.Trials.{trial, trialNumber}
-use Rattle.runfile.specs.File.{fileOf}
+use Rattle.files.specs.File.{fileOf}
 use Rattle.player.specs.Printed.{printed, listPrinted}
 use Rattle.player.proofs.Files.{file-printed}
 use Rattle.trials.proofs.Files.{trial-file}

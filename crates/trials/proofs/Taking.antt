@@ -24,7 +24,7 @@ use Rattle.charts.proofs.Chosen.{Chosen, carries, grants, gaps, answers, replie
 use Rattle.charts.proofs.Settings.{is-trial, ran, made-le, keeps-settings}
 use Rattle.record.specs.Layout.{Fits}
 use Rattle.runfile.specs.Write.{refusedOr, firstRefusal}
-use Rattle.runfile.specs.File.{AllFit, Taken}
+use Rattle.files.specs.File.{AllFit, Taken}
 use Rattle.turns.specs.Turns.{Allowed}
 use Rattle.trials.specs.Trying.{part}
 use Rattle.trials.proofs.Parts.{part-length}

@@ -9,7 +9,7 @@ use Rattle.charts.specs.declared.Tally.{Tally}
 use Rattle.charts.specs.declared.User.{User}
 use Rattle.charts.specs.Numbers as N
 use Rattle.charts.specs.Trials.{chosen, trial, trialNumber}
-use Rattle.runfile.specs.File.{blocksFor, fileOf}
+use Rattle.files.specs.File.{blocksFor, fileOf}
 use Rattle.turns.specs.Turns.{tallyAfter, Stands}
 use Rattle.trials.specs.declared.Answer.{Answer}
 use Rattle.trials.specs.declared.Tried.{Tried}

@@ -10,7 +10,7 @@ ghost use lib.Seq.{sets};
 ghost use Rattle.charts.specs.State.{some};
 ghost use Rattle.charts.specs.Valid.{isSize};
 ghost use Rattle.charts.specs.Trials.{begins, trial, strayAddress, trialNumber, noTally};
-ghost use Rattle.runfile.specs.File.{fileOf};
+ghost use Rattle.files.specs.File.{fileOf};
 ghost use Rattle.charts.specs.View.{usersOf};
 ghost use Rattle.turns.specs.Turns.{loadIn, Allowed};
 ghost use Rattle.trials.specs.Trying.{tried, triedOf, answered, fileAfter};

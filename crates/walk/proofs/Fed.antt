@@ -8,10 +8,10 @@ use native.Mathlib.Nat.{zero-add}
 use lib.ListN.{length}
 use Rattle.runfile.specs.declared.BlockHead.{BlockHead}
 use Rattle.runfile.specs.declared.BlockHead.the-variants.{Holds, Refused}
-use Rattle.runfile.specs.declared.order.Stage.{Stage}
-use Rattle.runfile.specs.declared.order.Stage.the-variants.{Ended}
-use Rattle.runfile.specs.Order.{isEnded, acceptedBy, lookOf, stageAfter}
-use Rattle.runfile.specs.Pieces.{actionsIn}
+use Rattle.files.specs.declared.order.Stage.{Stage}
+use Rattle.files.specs.declared.order.Stage.the-variants.{Ended}
+use Rattle.files.specs.Order.{isEnded, acceptedBy, lookOf, stageAfter}
+use Rattle.files.specs.Pieces.{actionsIn}
 use Rattle.transcript.specs.Room.{put, Puts}
 use Rattle.transcript.proofs.Puts.{and-then, put-none}
 use Rattle.walk.specs.declared.Found.the-variants.{Nothing, Block}

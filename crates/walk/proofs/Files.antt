@@ -10,12 +10,12 @@ use Rattle.charts.specs.declared.Action.{Action}
 use Rattle.charts.proofs.Tools.{or-yes}
 use Rattle.record.specs.Bytes.{Bytes}
 use Rattle.runfile.specs.Block.{headOf}
-use Rattle.runfile.specs.File.{IsBlock, Blocks, last, next, IsFile}
-use Rattle.runfile.specs.Pieces.{pieces, Before, none, isFirst, lookedAt}
-use Rattle.runfile.proofs.Accepted.{shown}
+use Rattle.files.specs.File.{IsBlock, Blocks, last, next, IsFile}
+use Rattle.files.specs.Pieces.{pieces, Before, none, isFirst, lookedAt}
+use Rattle.files.proofs.Accepted.{shown}
 use Rattle.runfile.proofs.Parts.{bytes-first, bytes-second}
-use Rattle.runfile.proofs.Pieces.{more-pieces, one-piece}
-use Rattle.runfile.proofs.Stages.{At, found}
+use Rattle.files.proofs.Pieces.{more-pieces, one-piece}
+use Rattle.files.proofs.Stages.{At, found}
 use Rattle.walk.specs.Walk.{Walker, turned, walking, nodesOnce, opened, blockWalked, walkedFrom, walked, listWalked}
 
 -- what 10 asks of the blocks before, after one more

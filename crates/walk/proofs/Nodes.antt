@@ -7,12 +7,12 @@ use native.Mathlib.Omega.{arith}
 use Rattle.charts.specs.declared.Action.{Action}
 use Rattle.runfile.specs.declared.BlockHead.{BlockHead}
 use Rattle.runfile.specs.declared.BlockHead.the-variants.{Holds, Refused}
-use Rattle.runfile.specs.declared.order.Stage.{Stage}
-use Rattle.runfile.specs.declared.order.Stage.the-variants.{Unopened, After, Ended}
+use Rattle.files.specs.declared.order.Stage.{Stage}
+use Rattle.files.specs.declared.order.Stage.the-variants.{Unopened, After, Ended}
 use Rattle.runfile.specs.Block.{headOf}
-use Rattle.runfile.specs.Order.{acceptedBy, lookOf, stageAfter}
-use Rattle.runfile.specs.Pieces.{pieces, actionsIn}
-use Rattle.runfile.proofs.Stages.{before, same-look, Passed, passed, next}
+use Rattle.files.specs.Order.{acceptedBy, lookOf, stageAfter}
+use Rattle.files.specs.Pieces.{pieces, actionsIn}
+use Rattle.files.proofs.Stages.{before, same-look, Passed, passed, next}
 use Rattle.transcript.specs.Lines.{refusedLine}
 use Rattle.transcript.specs.Room.{Puts}
 use Rattle.walk.specs.declared.Found.the-variants.{Block}

@@ -11,12 +11,12 @@ use Rattle.charts.specs.Valid.{isSize}
 use Rattle.charts.proofs.Tools.{never}
 use Rattle.runfile.specs.declared.BlockHead.{BlockHead}
 use Rattle.runfile.specs.declared.BlockHead.the-variants.{Holds, Refused}
-use Rattle.runfile.specs.declared.order.Stage.{Stage}
-use Rattle.runfile.specs.declared.order.Stage.the-variants.{Unopened, After, Ended}
+use Rattle.files.specs.declared.order.Stage.{Stage}
+use Rattle.files.specs.declared.order.Stage.the-variants.{Unopened, After, Ended}
 use Rattle.runfile.specs.Block.{headOf}
-use Rattle.runfile.specs.Order.{isEnded, acceptedBy, lookOf, stageAfter}
-use Rattle.runfile.specs.Pieces.{pieces, Before, none, isFirst, follows, lookedAt, actionsIn}
-use Rattle.runfile.proofs.Stages.{before, same-look, Passed, passed, next, counted}
+use Rattle.files.specs.Order.{isEnded, acceptedBy, lookOf, stageAfter}
+use Rattle.files.specs.Pieces.{pieces, Before, none, isFirst, follows, lookedAt, actionsIn}
+use Rattle.files.proofs.Stages.{before, same-look, Passed, passed, next, counted}
 use Rattle.transcript.specs.Lines.{refusedLine}
 use Rattle.walk.specs.Walk.{isTaken, Walker, walking, opened, blockWalked, walkedFrom, walked}
 use Rattle.walk.specs.Feeding.{isUnopened, openingOf, foundBy, textBy, foundIn, foundText, Part, lineThen, partOf, foundGives, feedOf, finishOf, fedText}

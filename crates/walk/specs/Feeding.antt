@@ -8,10 +8,10 @@ use Rattle.charts.specs.declared.Action.{Action}
 use Rattle.charts.specs.Numbers as N
 use Rattle.runfile.specs.declared.BlockHead.{BlockHead}
 use Rattle.runfile.specs.declared.BlockHead.the-variants.{Holds, Refused}
-use Rattle.runfile.specs.declared.order.Stage.{Stage}
-use Rattle.runfile.specs.declared.order.Stage.the-variants.{Unopened, After, Ended}
-use Rattle.runfile.specs.Order.{isEnded, acceptedBy, lookOf, stageAfter}
-use Rattle.runfile.specs.Pieces.{actionsIn}
+use Rattle.files.specs.declared.order.Stage.{Stage}
+use Rattle.files.specs.declared.order.Stage.the-variants.{Unopened, After, Ended}
+use Rattle.files.specs.Order.{isEnded, acceptedBy, lookOf, stageAfter}
+use Rattle.files.specs.Pieces.{actionsIn}
 use Rattle.transcript.specs.Lines.{refusedLine}
 use Rattle.walk.specs.declared.Found.{Found}
 use Rattle.walk.specs.declared.Found.the-variants.{Nothing, Block}

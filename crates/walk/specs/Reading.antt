@@ -2,9 +2,9 @@
 use mathlib.Core.Path.{_≡_}
 use mathlib.Core.List.{List}
 use Prim.Native.Nat.{ℕ}
-use Rattle.runfile.specs.declared.order.Stage.{Stage}
-use Rattle.runfile.specs.declared.order.Stage.the-variants.{Unopened}
-use Rattle.runfile.specs.Order.{isEnded}
+use Rattle.files.specs.declared.order.Stage.{Stage}
+use Rattle.files.specs.declared.order.Stage.the-variants.{Unopened}
+use Rattle.files.specs.Order.{isEnded}
 use Rattle.transcript.specs.Room.{Puts}
 use Rattle.walk.specs.declared.reading.Reading.{Reading}
 use Rattle.walk.specs.declared.reading.Fed.{Fed}

@@ -8,7 +8,7 @@ use Rattle.charts.specs.Numbers as N
 use Rattle.runfile.specs.declared.BlockHead.{BlockHead}
 use Rattle.runfile.specs.declared.BlockHead.the-variants.{Holds, Refused}
 use Rattle.runfile.specs.Block.{headOf}
-use Rattle.runfile.specs.Pieces.{pieces, Before, none, isFirst, lookedAt, actionsIn}
+use Rattle.files.specs.Pieces.{pieces, Before, none, isFirst, lookedAt, actionsIn}
 use Rattle.transcript.specs.Lines.{nodesLine, refusedLine}
 
 -- what the turn of an action gives: 0 or the number of its refusal, its line, and the state that the next action finds

@@ -9,9 +9,9 @@ ghost use Rattle.transcript.specs.Lines.{doneLine};
 ghost use Rattle.transcript.specs.Room.{put, Puts};
 ghost use Rattle.walk.specs.Walk.{nodesOnce};
 ghost use Rattle.walk.specs.Feeding.{isUnopened, foundIn, foundText, foundFits, finishOf};
+use files::order;
+use files::order::Stage;
 use runfile::BlockHead;
-use runfile::order;
-use runfile::order::Stage;
 
 const WRONG_LENGTH: u8 = 8;
 

@@ -1,8 +1,8 @@
 // Walks that read a file and do not play it: between two pieces they have block 0's n, and how far the file has been read.
 ghost use mathlib.Core.Path.{_≡_};
 ghost use Rattle.walk.specs.Reading.{seen, started, fedWith};
-use runfile::order;
-use runfile::order::Stage;
+use files::order;
+use files::order::Stage;
 
 // Such a walk between two pieces.
 pub struct Reading {

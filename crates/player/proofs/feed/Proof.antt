@@ -3,8 +3,8 @@ use mathlib.Core.Path.{refl, sym, ap, _∙_}
 use native.Mathlib.Omega.{arith}
 use borrow.Author.Needs.{needs}
 use Rattle.charts.specs.View.{view}
-use Rattle.runfile.specs.Order.{stageAfter}
-use Rattle.runfile.proofs.Stages.{ended-after}
+use Rattle.files.specs.Order.{stageAfter}
+use Rattle.files.proofs.Stages.{ended-after}
 use Rattle.walk.proofs.Fed.{fed-nothing, fed-block}
 use Rattle.player.specs.Feeding.{seen, advancing}
 use Rattle.player.proofs.feed.Statement.{statement}

@@ -1,6 +1,6 @@
 use mathlib.Core.Path.{ap}
 use Rattle.charts.specs.Step.{Result, begin}
-use Rattle.runfile.specs.declared.order.Stage.the-variants.{Unopened}
+use Rattle.files.specs.declared.order.Stage.the-variants.{Unopened}
 use Rattle.charts.specs.State.{State}
 use Rattle.walk.specs.Feeding.{Walking}
 use borrow.Author.Needs.{needs}

@@ -10,7 +10,7 @@ use Rattle.record.specs.Layout.{actionsOf}
 use Rattle.record.proofs.Walk.{tail-part, records-more, records-none}
 use Rattle.runfile.specs.Block.{zeros}
 use Rattle.runfile.specs.Write.{firstRefusal}
-use Rattle.runfile.proofs.Files.{never-zero}
+use Rattle.runfile.proofs.Loops.{never-zero}
 use Rattle.runfile.proofs.Stored.{action-stored}
 use Rattle.runfile.proofs.Traces.{Sums, none, one-more, sum-small, row-length}
 use Rattle.runfile.proofs.take_actions.Statement.{statement}

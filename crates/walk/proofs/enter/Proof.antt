@@ -3,7 +3,7 @@ use native.Mathlib.Omega.{arith}
 use lib.ListN.{length}
 use borrow.Author.Needs.{needs}
 use Rattle.runfile.specs.declared.BlockHead.the-variants.{Holds, Refused}
-use Rattle.runfile.specs.Order.{lookOf}
+use Rattle.files.specs.Order.{lookOf}
 use Rattle.transcript.specs.Lines.{refusedLine}
 use Rattle.transcript.proofs.Puts.{puts-none}
 use Rattle.transcript.proofs.Rooms.{puts-line}

@@ -7,9 +7,9 @@ use borrow.Author.Tests.{eq-eqb, ne-eqb}
 use Rattle.charts.specs.Records.{read}
 use Rattle.record.specs.Layout.{actionAt}
 use Rattle.record.proofs.Walk.{tail-part}
-use Rattle.runfile.specs.Pieces.{actionsIn}
+use Rattle.files.specs.Pieces.{actionsIn}
 use Rattle.record.specs.Looked.{numberOf}
-use Rattle.runfile.proofs.Pieces.{left, left-all, left-none, left-more}
+use Rattle.files.proofs.Pieces.{left, left-all, left-none, left-more}
 use Rattle.transcript.specs.Lines.{refusedLine}
 use Rattle.transcript.specs.Printed.{actionLine}
 use Rattle.transcript.proofs.Rooms.{puts-line}

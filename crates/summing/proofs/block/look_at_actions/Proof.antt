@@ -10,8 +10,8 @@ use Rattle.charts.specs.Records.{read}
 use Rattle.record.specs.Layout.{actionAt}
 use Rattle.record.specs.Looked.{numberOf}
 use Rattle.record.proofs.Walk.{tail-part}
-use Rattle.runfile.specs.Pieces.{actionsIn}
-use Rattle.runfile.proofs.Pieces.{left, left-all, left-none, left-more}
+use Rattle.files.specs.Pieces.{actionsIn}
+use Rattle.files.proofs.Pieces.{left, left-all, left-none, left-more}
 use Rattle.walk.specs.Feeding.{partOf}
 use Rattle.summing.specs.Summed.{tracing}
 use Rattle.summing.proofs.block.look_at_actions.Statement.{statement}

@@ -9,14 +9,9 @@ use Rattle.charts.specs.Valid.{isSize}
 use Rattle.charts.specs.declared.Action.{Action}
 use Rattle.record.specs.Bytes.{bound, Bytes}
 use Rattle.record.specs.Layout.{Fits, actionsOf, recordsOf}
 use Rattle.runfile.specs.declared.BlockHead.the-variants.{Holds}
 use Rattle.runfile.specs.Block.{readBlock, usedBytes}
-use Rattle.runfile.specs.Write.{firstRefusal, writeNumber, blockWith, blockOf}
-
--- a written block reads back: the same number and n, and the action bytes that were given
-pub record ReadsBack (number n : ℕ) (records : List ℕ) : Type 0 where
-  pub head : readBlock (blockWith number n records) ≡ Holds number (length records / 16) n
-  pub used : usedBytes (blockWith number n records) ≡ records
+use Rattle.runfile.specs.Write.{firstRefusal, writeNumber, blockOf}
 
 -- "All but the last block are full": how many blocks a list of actions fills, and its blocks from number i on
 abbrev pub blocksFor : ℕ → ℕ

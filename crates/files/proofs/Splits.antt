@@ -6,8 +6,8 @@ use native.Mathlib.Omega.{arith}
 use lib.ListN.{length, take, drop, length-drop}
 use lib.Seq.{take-append-le, drop-append-le}
 use Rattle.charts.specs.declared.Action.{Action}
 use Rattle.runfile.specs.Write.{blockOf}
-use Rattle.runfile.specs.File.{fileFrom}
+use Rattle.files.specs.File.{fileFrom}
 
 -- full blocks, and the blocks after them
 pub file-split : (k j i n : ℕ) (l m : List Action) → length l ≡ 31 * k → fileFrom (k + j) i n (l ++ m) ≡ fileFrom k i n l ++ fileFrom j (i + k) n m

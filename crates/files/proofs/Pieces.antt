@@ -7,7 +7,7 @@ use lib.ListN.{length, drop, length-append, length-drop}
 use lib.Seq.{take-at, drop-at, drop-drop}
 use Rattle.charts.specs.declared.Action.{Action}
 use Rattle.record.specs.Layout.{actionAt, actionsOf}
-use Rattle.runfile.specs.Pieces.{cut, pieces, actionsIn}
+use Rattle.files.specs.Pieces.{cut, pieces, actionsIn}
 
 -- more pieces than there are bytes change nothing
 enough : (k m : ℕ) (t : List ℕ) → length t ≤ k → length t ≤ m → cut k t ≡ cut m t

@@ -1,14 +1,15 @@
 // The order of a file's blocks: how far a file has been read, and its next block looked at by 8, 9, 1, 10, 11.
 ghost use mathlib.Core.Path.{_≡_};
 ghost use Prim.Native.Nat.{_≤_};
 ghost use Rattle.runfile.specs.Block.{blockFits};
-ghost use Rattle.runfile.specs.Order.{isEnded, acceptedBy, isNext, lookOf, refusalOf, stageAfter};
-use crate::BlockHead;
-use crate::WRONG_COUNT;
-use crate::count_fits;
-use crate::read_head;
+ghost use Rattle.files.specs.Order.{isEnded, acceptedBy, isNext, lookOf, refusalOf, stageAfter};
+use runfile::BlockHead;
+use runfile::count_fits;
+use runfile::read_head;
 
 const WRONG_ORDER: u8 = 10;
+
+const WRONG_COUNT: u8 = 11;
 
 const FULL: u8 = 31;
 

@@ -1,10 +1,10 @@
 -- Every list of actions that the writer takes has one file. Assumes nothing.
-use mathlib.Core.Path.{_≡_, refl, ap₂, sym, _∙_, subst}
-use mathlib.Core.Bool.{true, false, true≢false}
+use mathlib.Core.Path.{_≡_, refl, ap₂, sym, _∙_}
+use mathlib.Core.Bool.{true}
 use mathlib.Core.List.{List, [], _∷_, _++_, append-nil}
 use Prim.Native.Nat.{ℕ, zero, suc, _+_, _*_, _-_, _/_, _%_, _<_, _≤_}
 use native.Mathlib.Omega.{arith}
-use lib.Dec.{eqb, ltb}
+use lib.Dec.{ltb}
 use lib.ListN.{length, take, drop, length-append, length-take, length-drop, take-append-drop}
 use lib.Seq.{take-at, drop-at, take-all, length-take-le}
 use borrow.Author.Tests.{lt-ltb, ltb-true}
@@ -13,18 +13,17 @@ use Rattle.charts.specs.Records.{read}
 use Rattle.charts.specs.declared.Action.{Action}
 use Rattle.charts.specs.declared.Decoded.{Decoded}
 use Rattle.charts.specs.declared.Decoded.the-variants as D
-use Rattle.charts.proofs.Steps.{Decodes, turned, taken, decodes}
 use Rattle.record.specs.Bytes.{little, bound, Bytes}
 use Rattle.record.proofs.Little.{bytes-append, bytes-little}
 use Rattle.runfile.specs.Block.{zeros, checkSum, usedBytes}
 use Rattle.runfile.specs.Write.{refusedOr, firstRefusal, isRecords, writeNumber, headBytes, bodyOf, blockWith, blockOf}
 use Rattle.record.specs.Layout.{recordsOf}
-use Rattle.runfile.specs.File.{blocksFor, fileFrom, fileOf, IsBlock, Blocks, last, next, AllFit, Taken, OneFile}
-use Rattle.runfile.proofs.Loops.{and-left, and-right, count-small}
+use Rattle.files.specs.File.{blocksFor, fileFrom, fileOf, IsBlock, Blocks, last, next, AllFit, Taken, OneFile}
+use Rattle.runfile.proofs.Loops.{and-left, and-right, count-small, never-zero}
 use Rattle.runfile.proofs.Parts.{bytes-zeros, bytes-first, bytes-second, bytes-drop, bytes-take}
 use Rattle.runfile.proofs.Written.{reads-back, used-back}
-use Rattle.runfile.proofs.Accepted.{shown, used-is, used-length, block-is}
-use Rattle.runfile.proofs.Lists.{records-length, records-bytes, actions-of-records, records-of-actions}
+use Rattle.files.proofs.Accepted.{shown, used-is, used-length, block-is}
+use Rattle.files.proofs.Lists.{records-length, records-bytes, actions-of-records, records-of-actions}
 
 -- the bytes of 1 to 31 records
 records-whole : (l : List Action) → 1 ≤ length l → length l ≤ 31 → isRecords (length (recordsOf l)) ≡ true
@@ -128,14 +127,6 @@ file-bytes n size (suc k) i l all j =
     let short : length (take 31 l) ≤ 31 = simp length-take (omega arith) in
     bytes-append (blockOf i n (take 31 l)) (fileFrom k (suc i) n (drop 31 l)) (block-bytes n i (take 31 l) size short (fit-take 31 l all))
     (file-bytes n size k (suc i) (drop 31 l) (fit-drop 31 l all)) j
-
--- no record is refused by 0
-pub never-zero : (n : ℕ) (a : Action) → read n a ≡ D.Refused 0 → ⊥
-never-zero n a = go (decodes n a)
-  where
-    go : {d : Decoded} → Decodes n a d → d ≡ D.Refused 0 → ⊥
-    go (turned {k} e) q = let z : k ≡ 0 = cc in true≢false (subst (λ k. eqb k 0 ≡ false) z e)
-    go (taken x) q = let z : _≡_ {A = ℕ} 0 1 = cc in omega arith
 
 -- the parts of a list that the writer takes
 module _ (n : ℕ) where

@@ -1,9 +1,9 @@
 use native.Mathlib.Omega.{arith}
 use borrow.Author.Tests.{not-false}
-use Rattle.runfile.specs.Order.{lookOf}
+use Rattle.files.specs.Order.{lookOf}
 use borrow.Author.Needs.{needs}
-use Rattle.runfile.proofs.order.look.Statement.{statement}
-use Rattle.runfile.proofs.order.look.Tie as tie
+use Rattle.files.proofs.order.look.Statement.{statement}
+use Rattle.files.proofs.order.look.Tie as tie
 
 read-head-requires : tie.Need-read-head-requires
 read-head-requires c κs = search needs

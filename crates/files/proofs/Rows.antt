@@ -10,7 +10,7 @@ use Rattle.charts.specs.declared.Action.{Action}
 use Rattle.record.specs.Bytes.{putAt}
 use Rattle.record.specs.Layout.{bytesOf, recordsOf}
 use Rattle.record.proofs.Round.{length-bytes}
-use Rattle.runfile.proofs.Lists.{records-length}
+use Rattle.files.proofs.Lists.{records-length}
 
 records-more : (l : List Action) (a : Action) → recordsOf (l ++ (a ∷ [])) ≡ recordsOf l ++ bytesOf a
 records-more [] a = append-nil (bytesOf a)

@@ -1,7 +1,7 @@
 use native.Mathlib.Omega.{arith}
 use borrow.Author.Needs.{needs}
-use Rattle.runfile.proofs.order.accepted_by.Statement.{statement}
-use Rattle.runfile.proofs.order.accepted_by.Tie as tie
+use Rattle.files.proofs.order.accepted_by.Statement.{statement}
+use Rattle.files.proofs.order.accepted_by.Tie as tie
 
 enum-told : tie.Need-enum-told
 enum-told c = search needs

@@ -4,11 +4,11 @@ use mathlib.Core.List.{List}
 use Prim.Native.Nat.{ℕ, _+_, _*_}
 use lib.Dec.{eqb, ltb}
 use Rattle.charts.specs.Numbers as N
 use Rattle.runfile.specs.declared.BlockHead.{BlockHead}
 use Rattle.runfile.specs.declared.BlockHead.the-variants.{Holds, Refused}
-use Rattle.runfile.specs.declared.order.Stage.{Stage}
-use Rattle.runfile.specs.declared.order.Stage.the-variants.{Unopened, After, Ended}
+use Rattle.files.specs.declared.order.Stage.{Stage}
+use Rattle.files.specs.declared.order.Stage.the-variants.{Unopened, After, Ended}
 use Rattle.runfile.specs.Block.{headOf, countFits}
 
 abbrev pub isEnded : Stage → Bool
 isEnded Unopened = false

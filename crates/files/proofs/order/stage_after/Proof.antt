@@ -1,5 +1,5 @@
-use Rattle.runfile.proofs.order.stage_after.Statement.{statement}
-use Rattle.runfile.proofs.order.stage_after.Tie as tie
+use Rattle.files.proofs.order.stage_after.Statement.{statement}
+use Rattle.files.proofs.order.stage_after.Tie as tie
 
 returns : tie.Need-returns
 returns c = simp (c .if1 .taken)

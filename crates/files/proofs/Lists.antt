@@ -10,11 +10,11 @@ use Rattle.record.specs.Bytes.{Bytes}
 use Rattle.record.specs.Layout.{bytesOf, actionsOf, recordsOf}
 use Rattle.record.proofs.Little.{bytes-append}
 use Rattle.record.proofs.Round.{action-front, action-of-bytes, bytes-of-action, length-bytes, bytes-bytes}
 use Rattle.runfile.specs.declared.BlockHead.the-variants.{Holds}
 use Rattle.runfile.specs.Block.{readBlock, usedBytes}
-use Rattle.runfile.specs.File.{AllFit}
+use Rattle.files.specs.File.{AllFit}
 use Rattle.runfile.proofs.Parts.{cut, bytes-drop}
-use Rattle.runfile.proofs.Accepted.{shown, at-most, used-is}
+use Rattle.files.proofs.Accepted.{shown, at-most, used-is}
 
 pub records-length : (l : List Action) → length (recordsOf l) ≡ 16 * length l
 records-length [] = refl

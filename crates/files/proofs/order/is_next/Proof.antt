@@ -1,8 +1,8 @@
-use Rattle.runfile.specs.Order.{isNext}
+use Rattle.files.specs.Order.{isNext}
 use borrow.Author.Tests.{eq-eqb, ne-eqb, lt-ltb, le-ltb}
 use borrow.Author.Needs.{needs}
-use Rattle.runfile.proofs.order.is_next.Statement.{statement}
-use Rattle.runfile.proofs.order.is_next.Tie as tie
+use Rattle.files.proofs.order.is_next.Statement.{statement}
+use Rattle.files.proofs.order.is_next.Tie as tie
 
 enum-told : tie.Need-enum-told
 enum-told c = search needs

@@ -12,18 +12,18 @@ use Rattle.charts.specs.declared.Action.{Action}
 use Rattle.charts.specs.Valid.{isSize}
 use Rattle.charts.proofs.Tools.{and-true, and-yes, or-true, both, never, pick-by}
 use Rattle.record.specs.Bytes.{Bytes}
 use Rattle.runfile.specs.declared.BlockHead.{BlockHead}
 use Rattle.runfile.specs.declared.BlockHead.the-variants.{Holds, Refused}
-use Rattle.runfile.specs.declared.order.Stage.{Stage}
-use Rattle.runfile.specs.declared.order.Stage.the-variants.{Unopened, After, Ended}
+use Rattle.files.specs.declared.order.Stage.{Stage}
+use Rattle.files.specs.declared.order.Stage.the-variants.{Unopened, After, Ended}
 use Rattle.runfile.specs.Block as B
 use Rattle.runfile.specs.Block.{headOf, countFits, readBlock, nIn, checkIn, checkOf}
-use Rattle.runfile.specs.File.{IsBlock}
-use Rattle.runfile.specs.Pieces.{Before, none, isFirst, follows, lookedAt, actionsIn}
-use Rattle.runfile.specs.Order.{isEnded, acceptedBy, isNext, checked, stageAfter}
-use Rattle.runfile.proofs.Accepted.{number-fits}
-use Rattle.runfile.proofs.Lists.{actions-in-block}
-use Rattle.runfile.proofs.Pieces.{count-actions}
+use Rattle.files.specs.File.{IsBlock}
+use Rattle.files.specs.Pieces.{Before, none, isFirst, follows, lookedAt, actionsIn}
+use Rattle.files.specs.Order.{isEnded, acceptedBy, isNext, checked, stageAfter}
+use Rattle.files.proofs.Accepted.{number-fits}
+use Rattle.files.proofs.Lists.{actions-in-block}
+use Rattle.files.proofs.Pieces.{count-actions}
 
 pub ended-after : (b : Bool) (number count : ℕ) → isEnded (stageAfter b number count) ≡ b
 ended-after true number count = refl
