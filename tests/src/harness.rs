@@ -8,6 +8,7 @@ pub mod asking;
 pub mod bench;
 pub mod bench_find;
 pub mod bench_trials;
+pub mod cases;
 pub mod child;
 pub mod compare;
 pub mod compare_find;

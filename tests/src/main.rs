@@ -11,6 +11,7 @@ use bench_model::harness::{
     bench, bench_find, bench_trials, compare, compare_find, compare_probe, compare_sums,
     compare_text, compare_trials, fuzz, generate, samples, walk,
 };
+use bench_model::plain::Written;
 use bench_model::{counts, notation, player, probe, questions, settings, sums, table};
 
 const USAGE: &str = "\
@@ -82,11 +83,13 @@ fn command() -> Result<(), String> {
         }
         "trial" => {
             rest.end()?;
-            trial().map_err(|error| error.to_string())
+            let written = settings::trial_stream(&mut io::stdin().lock());
+            written.and_then(put).map_err(|error| error.to_string())
         }
         "find" => {
             rest.end()?;
-            find().map_err(|error| error.to_string())
+            let written = questions::find_stream(&mut io::stdin().lock());
+            written.and_then(put).map_err(|error| error.to_string())
         }
         "probe" => {
             rest.end()?;
@@ -101,9 +104,7 @@ fn command() -> Result<(), String> {
             io::stdout().write_all(counts::text().as_bytes()).map_err(|error| error.to_string())
         }
         "compare-text" => {
-            let files = rest.number("--files")?.unwrap_or(3000);
-            let seed = rest.number("--seed")?.unwrap_or(1);
-            let only = rest.number("--only")?;
+            let (files, seed, only) = rest.made(3000)?;
             let (compose, list) = (rest.path()?, rest.path()?);
             rest.end()?;
             let options =
@@ -112,9 +113,7 @@ fn command() -> Result<(), String> {
             Ok(())
         }
         "compare-trials" => {
-            let files = rest.number("--files")?.unwrap_or(4000);
-            let seed = rest.number("--seed")?.unwrap_or(1);
-            let only = rest.number("--only")?;
+            let (files, seed, only) = rest.made(4000)?;
             let (trial, play) = (rest.path()?, rest.path()?);
             rest.end()?;
             let options = compare_trials::Options { trial: &trial, play: &play, files, seed, only };
@@ -122,9 +121,7 @@ fn command() -> Result<(), String> {
             Ok(())
         }
         "compare-find" => {
-            let files = rest.number("--files")?.unwrap_or(3000);
-            let seed = rest.number("--seed")?.unwrap_or(1);
-            let only = rest.number("--only")?;
+            let (files, seed, only) = rest.made(3000)?;
             let program = rest.program()?;
             let options = compare::Options { program: &program, files, seed, only };
             print!("{}", compare_find::compare_find(&options)?);
@@ -165,18 +162,14 @@ fn command() -> Result<(), String> {
             samples::check(&directory, &samples::Programs { play, compose, list, sums })
         }
         "compare" => {
-            let files = rest.number("--files")?.unwrap_or(5000);
-            let seed = rest.number("--seed")?.unwrap_or(1);
-            let only = rest.number("--only")?;
+            let (files, seed, only) = rest.made(5000)?;
             let program = rest.program()?;
             let options = compare::Options { program: &program, files, seed, only };
             print!("{}", compare::compare(&options)?);
             Ok(())
         }
         "compare-sums" => {
-            let files = rest.number("--files")?.unwrap_or(8000);
-            let seed = rest.number("--seed")?.unwrap_or(1);
-            let only = rest.number("--only")?;
+            let (files, seed, only) = rest.made(8000)?;
             let program = rest.program()?;
             let options = compare::Options { program: &program, files, seed, only };
             print!("{}", compare_sums::compare_sums(&options)?);
@@ -256,16 +249,11 @@ fn sums() -> io::Result<()> {
     sums::sums_stream(&mut input, &mut output)
 }
 
-/// The tally or the fault goes to standard error; here too the exit status does not tell.
-fn trial() -> io::Result<()> {
-    let (mut input, mut output) = buffered();
-    settings::trial_stream(&mut input, &mut output, &mut io::stderr())
-}
-
-/// Here too: a route or `none` goes to standard output, or the fault to standard error.
-fn find() -> io::Result<()> {
-    let (mut input, mut output) = buffered();
-    questions::find_stream(&mut input, &mut output, &mut io::stderr())
+/// Puts out what a program writes of a text; here too the exit status does not tell.
+fn put((text, said): Written) -> io::Result<()> {
+    io::stdout().write_all(&text)?;
+    io::stdout().flush()?;
+    io::stderr().write_all(said.as_bytes())
 }
 
 fn probe() -> io::Result<()> {
@@ -301,6 +289,13 @@ impl Arguments {
             return Ok(None);
         };
         word.parse().map(Some).map_err(|_| format!("{name}: {word} is no number"))
+    }
+
+    /// How many items are made, from which seed, and whether only one of them.
+    fn made(&mut self, files: u64) -> Result<(u64, u64, Option<u64>), String> {
+        let files = self.number("--files")?.unwrap_or(files);
+        let seed = self.number("--seed")?.unwrap_or(1);
+        Ok((files, seed, self.number("--only")?))
     }
 
     fn nodes(&mut self) -> Result<Option<u8>, String> {

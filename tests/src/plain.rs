@@ -349,3 +349,40 @@ pub fn read_text(
         }
     }
 }
+
+/// A text that says one thing, known at its end.
+pub trait Text {
+    type Said;
+
+    /// One line of the text, in its place.
+    fn line(&mut self, line: &[u8]) -> Result<(), Flaw>;
+
+    /// What whole lines have said, at the end of the text.
+    fn end(&self) -> Result<Self::Said, Flaw>;
+}
+
+/// What a text of any length says, or its first fault.
+pub fn read_said<T: Text>(
+    mut text: T,
+    input: &mut impl BufRead,
+) -> io::Result<Result<T::Said, Complaint>> {
+    let mut said = None;
+    let ended = read_text(input, |_, line| {
+        Ok(match line {
+            Some(line) => text.line(line),
+            None => text.end().map(|all| said = Some(all)),
+        })
+    })?;
+    Ok(ended.map(|()| said.expect("the text is at its end")))
+}
+
+/// What a program writes to standard output and to standard error.
+pub type Written = (Vec<u8>, String);
+
+/// What it writes of such a text: if that is wrong, one line to standard error and nothing else.
+pub fn written<T>(read: Result<T, Complaint>, right: impl FnOnce(T) -> Written) -> Written {
+    match read {
+        Ok(said) => right(said),
+        Err(complaint) => (Vec::new(), format!("{complaint}\n")),
+    }
+}

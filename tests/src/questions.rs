@@ -1,10 +1,10 @@
 //! "Questions": a run in plain words and then a line `find`, to the route that is asked for.
 
-use std::io::{self, BufRead, Write};
+use std::io::{self, BufRead};
 
 use crate::bus::{Bus, Record, Refusal, Report};
 use crate::notation::{self, Line as RunLine};
-use crate::plain::{self, Complaint, Fault, Fields, Flaw};
+use crate::plain::{self, Complaint, Fault, Fields, Flaw, Written};
 use crate::routes::{self, Question};
 
 /// What a line says by itself.
@@ -70,16 +70,6 @@ impl Text {
         Text { run: notation::Text::default(), bus: Bus::REFUSED, question: None }
     }
 
-    /// One line of the text, in its place. "Only blank lines and comments may follow the line `find`."
-    fn line(&mut self, line: &[u8]) -> Result<(), Flaw> {
-        match read_line(line)? {
-            Line::Run(RunLine::Blank) => Ok(()),
-            _ if self.question.is_some() => Err(Fault::AfterFind.into()),
-            Line::Run(read) => self.run(read, line),
-            Line::Find(question) => self.find(question, line),
-        }
-    }
-
     /// A line of the run: what runs ask of it, then 7.
     fn run(&mut self, read: RunLine, line: &[u8]) -> Result<(), Flaw> {
         self.run.take(read, line)?;
@@ -109,12 +99,25 @@ impl Text {
         self.question = Some(question);
         Ok(())
     }
+}
 
-    /// The end of the text, after whole lines.
-    fn end(&self) -> Result<(), Flaw> {
+impl plain::Text for Text {
+    type Said = Asked;
+
+    /// "Only blank lines and comments may follow the line `find`."
+    fn line(&mut self, line: &[u8]) -> Result<(), Flaw> {
+        match read_line(line)? {
+            Line::Run(RunLine::Blank) => Ok(()),
+            _ if self.question.is_some() => Err(Fault::AfterFind.into()),
+            Line::Run(read) => self.run(read, line),
+            Line::Find(question) => self.find(question, line),
+        }
+    }
+
+    fn end(&self) -> Result<Asked, Flaw> {
         self.run.nodes.said()?;
         match self.question {
-            Some(_) => Ok(()),
+            Some(question) => Ok(Asked { bus: self.bus.clone(), question }),
             None => Err(Fault::NoFindLine.into()),
         }
     }
@@ -134,15 +137,7 @@ fn refused(refusal: Refusal, question: &Question, n: u8, line: &[u8]) -> Flaw {
 
 /// What a text of any length asks, or its first fault.
 pub fn read_stream(input: &mut impl BufRead) -> io::Result<Result<Asked, Complaint>> {
-    let mut text = Text::new();
-    let ended = plain::read_text(input, |_, line| {
-        Ok(match line {
-            Some(line) => text.line(line),
-            None => text.end(),
-        })
-    })?;
-    let Text { bus, question, .. } = text;
-    Ok(ended.map(|()| Asked { bus, question: question.expect("it has its find line") }))
+    plain::read_said(Text::new(), input)
 }
 
 /// The same of a whole text.
@@ -152,30 +147,19 @@ pub fn read(text: &[u8]) -> Result<Asked, Complaint> {
 
 /// What the program `find` writes to standard output, or to standard error: "What is wrong goes to
 /// standard error, as one line, and then nothing is printed to standard output".
-pub fn find(text: &[u8]) -> (Vec<u8>, String) {
-    answer(read(text))
-}
-
-fn answer(read: Result<Asked, Complaint>) -> (Vec<u8>, String) {
-    let mut text = Vec::new();
-    match read {
-        Ok(Asked { bus, question }) => {
-            let route = routes::find(&bus, &question).expect("what was read is not refused");
-            routes::print(&mut text, &route);
-            (text, String::new())
-        }
-        Err(complaint) => (text, format!("{complaint}\n")),
-    }
+pub fn find(text: &[u8]) -> Written {
+    plain::written(read(text), answer)
 }
 
 /// The same for what a reader gives.
-pub fn find_stream(
-    input: &mut impl BufRead,
-    output: &mut impl Write,
-    errors: &mut impl Write,
-) -> io::Result<()> {
-    let (text, said) = answer(read_stream(input)?);
-    output.write_all(&text)?;
-    output.flush()?;
-    errors.write_all(said.as_bytes())
+pub fn find_stream(input: &mut impl BufRead) -> io::Result<Written> {
+    Ok(plain::written(read_stream(input)?, answer))
+}
+
+fn answer(asked: Asked) -> Written {
+    let Asked { bus, question } = asked;
+    let route = routes::find(&bus, &question).expect("what was read is not refused");
+    let mut text = Vec::new();
+    routes::print(&mut text, &route);
+    (text, String::new())
 }

@@ -1,9 +1,9 @@
 //! "Settings in plain words": a text to the settings of a trial.
 
-use std::io::{self, BufRead, Write};
+use std::io::{self, BufRead};
 
 use crate::bus::{is_address, MOST_NODES};
-use crate::plain::{self, Complaint, Fault, Fields, Flaw, Nodes};
+use crate::plain::{self, Complaint, Fault, Fields, Flaw, Nodes, Written};
 use crate::trial::{self, Settings, Tally, User};
 
 /// What a line says by itself.
@@ -68,8 +68,11 @@ impl Text {
     fn new() -> Text {
         Text { nodes: Nodes::default(), actions: 0, users: [User::default(); MOST_NODES] }
     }
+}
 
-    /// One line of the text, in its place.
+impl plain::Text for Text {
+    type Said = Settings;
+
     fn line(&mut self, line: &[u8]) -> Result<(), Flaw> {
         match read_line(line)? {
             Line::Blank => (),
@@ -88,17 +91,12 @@ impl Text {
     }
 
     /// "`actions 0`, which the trial would refuse by 11, or no `actions` line: told at the text's end"
-    fn end(&self) -> Result<(), Flaw> {
-        self.nodes.said()?;
+    fn end(&self) -> Result<Settings, Flaw> {
+        let n = self.nodes.said()?;
         match self.actions {
             0 => Err(Fault::NoAction.into()),
-            _ => Ok(()),
+            actions => Ok(Settings { n, users: self.users, actions }),
         }
-    }
-
-    fn settings(self) -> Result<Settings, Flaw> {
-        let n = self.nodes.said()?;
-        Ok(Settings { n, users: self.users, actions: self.actions })
     }
 }
 
@@ -115,14 +113,7 @@ fn look(node: u8, user: &User, n: u8, line: &[u8]) -> Result<(), Flaw> {
 
 /// The settings that a text of any length says, or its first fault.
 pub fn read_stream(input: &mut impl BufRead) -> io::Result<Result<Settings, Complaint>> {
-    let mut text = Text::new();
-    let ended = plain::read_text(input, |_, line| {
-        Ok(match line {
-            Some(line) => text.line(line),
-            None => text.end(),
-        })
-    })?;
-    Ok(ended.map(|()| text.settings().expect("it has its nodes line")))
+    plain::read_said(Text::new(), input)
 }
 
 /// The same of a whole text.
@@ -132,30 +123,17 @@ pub fn read(text: &[u8]) -> Result<Settings, Complaint> {
 
 /// What the program `trial` writes: "The run file goes to standard output, and the tally to standard
 /// error". "A text that is wrong makes no run: one line goes to standard error".
-pub fn trial(text: &[u8]) -> (Vec<u8>, String) {
-    run(read(text))
-}
-
-fn run(read: Result<Settings, Complaint>) -> (Vec<u8>, String) {
-    match read {
-        Ok(settings) => {
-            let mut tally = Tally::default();
-            let file =
-                trial::run_file(&settings, &mut tally).expect("what was read is not refused");
-            (file, tally.to_string())
-        }
-        Err(complaint) => (Vec::new(), format!("{complaint}\n")),
-    }
+pub fn trial(text: &[u8]) -> Written {
+    plain::written(read(text), run)
 }
 
 /// The same for what a reader gives.
-pub fn trial_stream(
-    input: &mut impl BufRead,
-    output: &mut impl Write,
-    errors: &mut impl Write,
-) -> io::Result<()> {
-    let (file, said) = run(read_stream(input)?);
-    output.write_all(&file)?;
-    output.flush()?;
-    errors.write_all(said.as_bytes())
+pub fn trial_stream(input: &mut impl BufRead) -> io::Result<Written> {
+    Ok(plain::written(read_stream(input)?, run))
+}
+
+fn run(settings: Settings) -> Written {
+    let mut tally = Tally::default();
+    let file = trial::run_file(&settings, &mut tally).expect("what was read is not refused");
+    (file, tally.to_string())
 }

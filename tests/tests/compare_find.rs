@@ -22,20 +22,11 @@ fn stand_ins() {
         let said = room.run(&["compare-find", "--only", only], &[&find]);
         assert_eq!(said, (0, "equal\n".into(), String::new()));
     }
-    // All are equal, and too few to hit all.
-    let (status, output, errors) = room.run(&["compare-find", "--files", "20"], &[&find]);
-    assert_eq!((status, &output[..]), (1, ""));
-    assert!(errors.starts_with("model: 20 questions; hit:\n"), "{errors}");
-    assert!(errors.contains("not hit: "), "{errors}");
-    let (status, output, errors) = room.run(&["compare-probe", "--states", "25"], &[&probe]);
-    assert_eq!((status, &output[..]), (1, ""));
-    assert!(errors.starts_with("model: 25 states handed in; hit:\n"), "{errors}");
-    assert!(errors.contains("not hit: "), "{errors}");
+    room.hits_too_few(&["compare-find", "--files", "20"], &[&find], "20 questions");
+    room.hits_too_few(&["compare-probe", "--states", "25"], &[&probe], "25 states handed in");
 
     let wrong = |words: &[&str], program: &Path, part: &str| {
-        let (status, output, errors) = room.run(words, &[program]);
-        assert_eq!((status, &output[..]), (1, ""));
-        assert!(errors.contains(part), "{errors}, not {part}");
+        let errors = room.fails(words, &[program], part);
         assert!(errors.contains("file kept as "), "{errors}");
         errors
     };

@@ -22,17 +22,11 @@ fn stand_ins() {
         let said = room.run(&["compare-trials", "--only", only], &[&trial, &play]);
         assert_eq!(said, (0, "equal\n".into(), String::new()));
     }
-    // All are equal, and too few to hit all.
-    let (status, output, errors) = room.run(&["compare-trials", "--files", "20"], &[&trial, &play]);
-    assert_eq!((status, &output[..]), (1, ""));
-    assert!(errors.starts_with("model: 20 settings; hit:\n"), "{errors}");
-    assert!(errors.contains("not hit: "), "{errors}");
+    room.hits_too_few(&["compare-trials", "--files", "20"], &[&trial, &play], "20 settings");
 
     let wrong = |trial: &Path, play: &Path, part: &str| {
         let words = ["compare-trials", "--files", "400"];
-        let (status, output, errors) = room.run(&words, &[trial, play]);
-        assert_eq!((status, &output[..]), (1, ""));
-        assert!(errors.contains(part), "{errors}, not {part}");
+        let errors = room.fails(&words, &[trial, play], part);
         assert!(errors.contains("again: model compare-trials TRIAL PLAY --seed 1 --only "));
     };
     let wrong_trial = |name: &str, body: &str, part: &str| {

@@ -7,6 +7,7 @@ use bench_model::notation::{
     compose, compose_stream, lines, list, print_action, read_line, Fault, Line,
 };
 use bench_model::runfile::{self, BLOCK};
+use common::plain::flaw_of;
 use common::*;
 
 fn acts(line: &str) -> Record {
@@ -22,7 +23,7 @@ fn fault(line: &[u8]) -> Fault {
 
 /// What is wrong in a line, with its cause.
 fn flaw(line: &[u8]) -> String {
-    read_line(line).expect_err("a fault").to_string()
+    flaw_of(read_line(line))
 }
 
 /// The line of standard error, and how many blocks are out before it.

@@ -4,8 +4,6 @@
 mod common;
 
 use std::collections::BTreeMap;
-use std::io::{BufReader, Write};
-use std::process::{Command, Stdio};
 
 use bench_model::bus::Report;
 use bench_model::harness::questions::{aims, QuestionWay};
@@ -16,6 +14,7 @@ use bench_model::probe::{self, Bytes};
 use bench_model::questions::{find, read, read_line, read_stream, Asked, Line};
 use bench_model::routes::Question;
 use bench_model::settings;
+use common::plain::{byte_by_byte, complaint_of, flaw_of, model};
 use common::*;
 
 fn question(line: &str) -> Question {
@@ -27,16 +26,12 @@ fn question(line: &str) -> Question {
 
 /// What is wrong in a line, with its cause.
 fn flaw(line: impl AsRef<[u8]>) -> String {
-    read_line(line.as_ref()).expect_err("a fault").to_string()
+    flaw_of(read_line(line.as_ref()))
 }
 
 /// The line of standard error for a wrong text.
 fn complaint(text: impl AsRef<[u8]>) -> String {
-    let (printed, said) = find(text.as_ref());
-    assert_eq!(printed, []);
-    let line = said.strip_suffix('\n').expect("a line");
-    assert!(line.starts_with("line "), "{line}");
-    line.into()
+    complaint_of(find(text.as_ref()))
 }
 
 fn asked(text: impl AsRef<[u8]>) -> Asked {
@@ -237,8 +232,8 @@ fn of_questions_alone() {
     for line in ["find", "find miss 0 within 3", "within 3", "miss 0"] {
         let word = line.split(' ').next().unwrap();
         let unknown = format!("unknown word: \"{word}\"");
-        assert_eq!(notation::read_line(line.as_bytes()).expect_err("a fault").to_string(), unknown);
-        assert_eq!(settings::read_line(line.as_bytes()).expect_err("a fault").to_string(), unknown);
+        assert_eq!(flaw_of(notation::read_line(line.as_bytes())), unknown);
+        assert_eq!(flaw_of(settings::read_line(line.as_bytes())), unknown);
     }
     assert_eq!(flaw("clock find"), "not a number: \"find\", the node of clock");
     assert_eq!(flaw("pass within"), "extra field: \"within\"");
@@ -263,8 +258,7 @@ fn streams() {
     let mut random = Random::new(4);
     for way in QuestionWay::all().into_iter().step_by(3) {
         let text = way.make(&mut random).text;
-        let mut input = BufReader::with_capacity(1, &text[..]);
-        assert_eq!(read_stream(&mut input).expect("memory can be read"), read(&text));
+        assert_eq!(read_stream(&mut byte_by_byte(&text)).unwrap(), read(&text));
     }
 }
 
@@ -276,10 +270,8 @@ fn random_texts() {
     for way in QuestionWay::all() {
         let case = way.make(&mut random);
         let read = read(&case.text);
-        let answer = read.clone().map_err(|complaint| (complaint.line, complaint.flaw.fault));
-        if let Some(expected) = case.expected {
-            assert!(answer == expected, "{way:?}: {}", String::from_utf8_lossy(&case.text));
-        }
+        let checked = case.check(&read, |asked| asked.question);
+        assert_eq!(checked, Ok(()), "{way:?}: {}", String::from_utf8_lossy(&case.text));
         let hits = match &read {
             Ok(asked) => aims::hits_of_answer(&case.text, asked, &None),
             Err(complaint) => aims::hits_of_fault(&case.text, complaint),
@@ -348,17 +340,8 @@ fn the_layout() {
 #[test]
 fn the_subcommands() {
     let run = |name: &str, input: &[u8]| {
-        let mut child = Command::new(env!("CARGO_BIN_EXE_model"))
-            .arg(name)
-            .stdin(Stdio::piped())
-            .stdout(Stdio::piped())
-            .stderr(Stdio::piped())
-            .spawn()
-            .unwrap();
-        let _ = child.stdin.take().unwrap().write_all(input);
-        let said = child.wait_with_output().unwrap();
-        let text = |bytes| String::from_utf8(bytes).unwrap();
-        (said.status.code(), text(said.stdout), text(said.stderr))
+        let (status, output, errors) = model(&[name], input);
+        (status, String::from_utf8(output).unwrap(), errors)
     };
     let text = format!("{TO_DATA}find good 1 within 3\n");
     let route = "pass\nclock 0\npass\n";

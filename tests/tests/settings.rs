@@ -1,14 +1,15 @@
 //! Settings in plain words: the reader and what it says of wrong ones, by hand from docs/TRIALS.md.
 
+mod common;
+
 use std::collections::BTreeMap;
-use std::io::{BufReader, Write};
-use std::process::{Command, Stdio};
 
 use bench_model::harness::hits::{self, Hits};
 use bench_model::harness::random::Random;
 use bench_model::harness::settings::{aims, plain, SettingsWay};
 use bench_model::settings::{read, read_line, read_stream, trial, Line};
 use bench_model::trial::{Settings, User};
+use common::plain::{byte_by_byte, complaint_of, flaw_of, model};
 
 fn user(line: &str) -> (u8, User) {
     match read_line(line.as_bytes()) {
@@ -19,16 +20,12 @@ fn user(line: &str) -> (u8, User) {
 
 /// What is wrong in a line, with its cause.
 fn flaw(line: impl AsRef<[u8]>) -> String {
-    read_line(line.as_ref()).expect_err("a fault").to_string()
+    flaw_of(read_line(line.as_ref()))
 }
 
 /// The line of standard error for a wrong text.
 fn complaint(text: impl AsRef<[u8]>) -> String {
-    let (file, said) = trial(text.as_ref());
-    assert_eq!(file, []);
-    let line = said.strip_suffix('\n').expect("a line");
-    assert!(line.starts_with("line "), "{line}");
-    line.into()
+    complaint_of(trial(text.as_ref()))
 }
 
 fn settings(text: impl AsRef<[u8]>) -> Settings {
@@ -294,8 +291,7 @@ fn streams() {
     let mut random = Random::new(4);
     for way in SettingsWay::all() {
         let text = way.make(&mut random).text;
-        let mut input = BufReader::with_capacity(1, &text[..]);
-        assert_eq!(read_stream(&mut input).expect("memory can be read"), read(&text));
+        assert_eq!(read_stream(&mut byte_by_byte(&text)).unwrap(), read(&text));
     }
 }
 
@@ -309,10 +305,8 @@ fn random_texts() {
         for way in SettingsWay::all() {
             let case = way.make(&mut random);
             let read = read(&case.text);
-            let answer = read.clone().map_err(|complaint| (complaint.line, complaint.flaw.fault));
-            if let Some(expected) = case.expected {
-                assert_eq!(answer, expected, "{way:?}: {}", String::from_utf8_lossy(&case.text));
-            }
+            let checked = case.check(&read, Settings::clone);
+            assert_eq!(checked, Ok(()), "{way:?}: {}", String::from_utf8_lossy(&case.text));
             if let Ok(settings) = &read {
                 assert_eq!(self::settings(plain(settings)), *settings);
             }
@@ -327,34 +321,20 @@ fn random_texts() {
 /// What `model trial` and `model settings` write.
 #[test]
 fn the_subcommands() {
-    let model = env!("CARGO_BIN_EXE_model");
-    let run = |arguments: &[&str], input: &[u8]| {
-        let mut child = Command::new(model)
-            .args(arguments)
-            .stdin(Stdio::piped())
-            .stdout(Stdio::piped())
-            .stderr(Stdio::piped())
-            .spawn()
-            .unwrap();
-        // One that reads nothing may be at its end already.
-        let _ = child.stdin.take().unwrap().write_all(input);
-        let said = child.wait_with_output().unwrap();
-        (said.status.code(), said.stdout, String::from_utf8(said.stderr).unwrap())
-    };
     let example = b"nodes 2\nactions 19\nuser 0 to 1\nuser 1 to 0 lose 2\n";
     let tally = "requests 2\nwins 1\nsent 0\nack 0\nmiss 1\ndrops 1\n";
     let (file, said) = trial(example);
     assert_eq!((file.len(), &said[..]), (512, tally));
-    assert_eq!(run(&["trial"], example), (Some(0), file, tally.into()));
-    assert_eq!(run(&["trial"], b"nodes 2\n"), (Some(0), vec![], "line 1: no action\n".into()));
-    assert_eq!(run(&["trial", "x"], example).0, Some(1));
+    assert_eq!(model(&["trial"], example), (Some(0), file, tally.into()));
+    assert_eq!(model(&["trial"], b"nodes 2\n"), (Some(0), vec![], "line 1: no action\n".into()));
+    assert_eq!(model(&["trial", "x"], example).0, Some(1));
     for seed in ["1", "2", "3", "4", "5"] {
-        let (status, text, errors) = run(&["settings", "--seed", seed], b"");
+        let (status, text, errors) = model(&["settings", "--seed", seed], b"");
         assert_eq!((status, &errors[..]), (Some(0), ""));
         assert!(read(&text).is_ok());
-        let (status, text, errors) = run(&["settings", "--wrong", "--seed", seed], b"");
+        let (status, text, errors) = model(&["settings", "--wrong", "--seed", seed], b"");
         assert_eq!((status, &errors[..]), (Some(0), ""));
         assert!(read(&text).is_err());
     }
-    assert_eq!(run(&["settings", "--seed"], b"").0, Some(1));
+    assert_eq!(model(&["settings", "--seed"], b"").0, Some(1));
 }

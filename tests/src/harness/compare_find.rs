@@ -5,46 +5,31 @@
 use std::path::Path;
 
 use super::answers;
+use super::cases::Numbered;
 use super::child;
 use super::compare::Options;
 use super::compare_text::{difference, difference_of_lines, run};
 use super::hits::{self, Hits};
-use super::questions::{aims, QuestionCase, QuestionWay};
+use super::questions::{aims, QuestionPlan};
 use super::random::Random;
-use super::workers;
 use crate::plain::Complaint;
 use crate::questions::{self, Asked};
 use crate::routes;
 
 pub fn compare_find(options: &Options) -> Result<String, String> {
-    let items = workers::items(options.files, options.only);
     let one = |index, path: &Path, hits: &mut Hits| one_text(options, index, path, hits);
-    let total = workers::each(items, one)?;
-    match options.only {
-        Some(_) => Ok("equal\n".into()),
-        None => hits::account(&total, &aims::aims(), &format!("{} questions", options.files)),
-    }
+    hits::compare(options.files, options.only, "questions", &aims::aims(), one)
 }
 
 fn one_text(options: &Options, index: u64, path: &Path, hits: &mut Hits) -> Result<(), String> {
     let mut random = Random::of(options.seed.rotate_left(29), index);
-    let ways = QuestionWay::all();
-    let way = ways[index as usize % ways.len()];
-    let case = way.make(&mut random);
-    let fail = |why: String| {
-        let name = format!("model-seed-{}-question-{index}.txt", options.seed);
-        let kept = child::keep(&name, &case.text);
-        format!(
-            "seed {}, question {index} ({way:?}): {why}\n{kept}\n\
-             again: model compare-find FIND --seed {} --only {index}",
-            options.seed, options.seed
-        )
-    };
+    let made = Numbered::<QuestionPlan>::make(options.seed, index, &mut random);
+    let fail = |why: String| made.failure("question", "compare-find FIND", why);
+    let case = &made.case;
     let read = questions::read(&case.text);
-    check_model(&case, &read).map_err(fail)?;
-    // In every turn other ways go through a pipe.
-    let turn = index / ways.len() as u64;
-    let input = child::input(&case.text, index + turn, path, &mut random).map_err(fail)?;
+    let otherwise = |why| fail(format!("{why}, or at another state"));
+    case.check(&read, |asked| asked.question).map_err(otherwise)?;
+    let input = made.input(path, &mut random).map_err(fail)?;
     let ran = run(options.program, &[], input, 0).map_err(fail)?;
     let hit = match &read {
         Ok(asked) => one_answer(asked, &case.text, &ran),
@@ -52,19 +37,6 @@ fn one_text(options: &Options, index: u64, path: &Path, hits: &mut Hits) -> Resu
     };
     hit.map_err(fail)?.into_iter().for_each(|name| hits.enter(name));
     Ok(())
-}
-
-/// The model's own reading: the question, or the fault and its line, that the way of the text gives.
-fn check_model(case: &QuestionCase, read: &Result<Asked, Complaint>) -> Result<(), String> {
-    let answer = read.clone().map_err(|complaint| (complaint.line, complaint.flaw.fault));
-    match &case.expected {
-        Some(expected) if *expected != answer => {
-            let said = |read: &Result<Asked, _>| read.clone().map(|asked| asked.question);
-            let (answer, expected) = (said(&answer), said(expected));
-            Err(format!("the MODEL reads {answer:?}, and should {expected:?}, or at another state"))
-        }
-        _ => Ok(()),
-    }
 }
 
 /// A right question: "a route of at most DEPTH actions […] or the line `none`".

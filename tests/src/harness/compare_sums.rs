@@ -11,18 +11,12 @@ use super::random::Random;
 use super::sum_ways::{weighted, Place, SumWay, MODULUS};
 use super::tally::last_refusal;
 use super::ways::UNPLAYED;
-use super::workers;
 use crate::runfile::{BLOCK, CHECK_AT, FIRST_ACTION, FULL, RECORD};
 use crate::{player, sums};
 
 pub fn compare_sums(options: &Options) -> Result<String, String> {
-    let items = workers::items(options.files, options.only);
     let one = |index, path: &Path, hits: &mut Hits| one_file(options, index, path, hits);
-    let total = workers::each(items, one)?;
-    match options.only {
-        Some(_) => Ok("equal\n".into()),
-        None => hits::account(&total, &aims(), &format!("{} files", options.files)),
-    }
+    hits::compare(options.files, options.only, "files", &aims(), one)
 }
 
 fn one_file(options: &Options, index: u64, path: &Path, hits: &mut Hits) -> Result<(), String> {

@@ -5,11 +5,12 @@
 use std::io::{self, Write};
 use std::path::Path;
 
+use super::cases::Numbered;
 use super::child::{self, Input, Ran};
 use super::hits::{self, Hits};
 use super::random::Random;
 use super::tally;
-use super::texts::{aims, TextCase, TextWay};
+use super::texts::{aims, TextCase, TextPlan};
 use super::ways::{End, Way, UNPLAYED};
 use super::workers;
 use crate::notation::{self, Complaint};
@@ -100,20 +101,11 @@ pub fn difference_of_lines(ran: &Ran, output: &[u8], errors: &[u8]) -> Option<St
 
 fn one_text(options: &Options, index: u64, path: &Path, hits: &mut Hits) -> Result<(), String> {
     let mut random = Random::of(options.seed.rotate_left(17), index);
-    let ways = TextWay::all();
-    let way = ways[index as usize % ways.len()];
-    let case = way.make(&mut random);
+    let text = Numbered::<TextPlan>::make(options.seed, index, &mut random);
+    let fail = |why: String| text.failure("text", "compare-text COMPOSE LIST", why);
+    let case = &text.case;
     let made = Made::of(&case.text);
-    let fail = |why: String| {
-        let name = format!("model-seed-{}-text-{index}.txt", options.seed);
-        let kept = child::keep(&name, &case.text);
-        format!(
-            "seed {}, text {index} ({way:?}): {why}\n{kept}\n\
-             again: model compare-text COMPOSE LIST --seed {} --only {index}",
-            options.seed, options.seed
-        )
-    };
-    made.check(&case).map_err(fail)?;
+    made.check(case).map_err(fail)?;
     let errors =
         made.complaint.as_ref().map_or(String::new(), |complaint| format!("{complaint}\n"));
     let input = child::input(&case.text, index, path, &mut random).map_err(fail)?;

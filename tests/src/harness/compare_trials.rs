@@ -4,14 +4,13 @@
 
 use std::path::Path;
 
-use super::child::{self, Input};
+use super::cases::Numbered;
+use super::child::Input;
 use super::compare_text::{difference, difference_of_lines, run};
 use super::hits::{self, Hits};
 use super::outside;
 use super::random::Random;
-use super::settings::{aims, SettingsCase, SettingsWay};
-use super::workers;
-use crate::plain::Complaint;
+use super::settings::{aims, SettingsPlan};
 use crate::trial::Settings;
 use crate::{player, settings};
 
@@ -25,36 +24,20 @@ pub struct Options<'a> {
 }
 
 pub fn compare_trials(options: &Options) -> Result<String, String> {
-    let items = workers::items(options.files, options.only);
     let one = |index, path: &Path, hits: &mut Hits| one_text(options, index, path, hits);
-    let total = workers::each(items, one)?;
     let aims: Vec<String> = aims::aims().into_iter().chain(outside::branches()).collect();
-    match options.only {
-        Some(_) => Ok("equal\n".into()),
-        None => hits::account(&total, &aims, &format!("{} settings", options.files)),
-    }
+    hits::compare(options.files, options.only, "settings", &aims, one)
 }
 
 fn one_text(options: &Options, index: u64, path: &Path, hits: &mut Hits) -> Result<(), String> {
     let mut random = Random::of(options.seed.rotate_left(43), index);
-    let ways = SettingsWay::all();
-    let way = ways[index as usize % ways.len()];
-    let case = way.make(&mut random);
-    let fail = |why: String| {
-        let name = format!("model-seed-{}-settings-{index}.txt", options.seed);
-        let kept = child::keep(&name, &case.text);
-        format!(
-            "seed {}, settings {index} ({way:?}): {why}\n{kept}\n\
-             again: model compare-trials TRIAL PLAY --seed {} --only {index}",
-            options.seed, options.seed
-        )
-    };
+    let made = Numbered::<SettingsPlan>::make(options.seed, index, &mut random);
+    let fail = |why: String| made.failure("settings", "compare-trials TRIAL PLAY", why);
+    let case = &made.case;
     let read = settings::read(&case.text);
-    check_model(&case, &read).map_err(fail)?;
+    case.check(&read, Settings::clone).map_err(fail)?;
     let (file, said) = settings::trial(&case.text);
-    // In every turn other ways go through a pipe.
-    let turn = index / ways.len() as u64;
-    let input = child::input(&case.text, index + turn, path, &mut random).map_err(fail)?;
+    let input = made.input(path, &mut random).map_err(fail)?;
     let ran = run(options.trial, &[], input, file.len()).map_err(fail)?;
     if let Some(why) = difference(&ran, &file, said.as_bytes()) {
         return Err(fail(format!("TRIAL: {why}")));
@@ -65,17 +48,6 @@ fn one_text(options: &Options, index: u64, path: &Path, hits: &mut Hits) -> Resu
     match read {
         Ok(settings) => one_run(options, &settings, &ran.text, &ran.errors, hits).map_err(fail),
         Err(_) => Ok(()),
-    }
-}
-
-/// The model's own answer: the settings, or the fault and its line, that the way of the text gives.
-fn check_model(case: &SettingsCase, read: &Result<Settings, Complaint>) -> Result<(), String> {
-    let answer = read.clone().map_err(|complaint| (complaint.line, complaint.flaw.fault));
-    match &case.expected {
-        Some(expected) if *expected != answer => {
-            Err(format!("the MODEL reads {answer:?}, and should {expected:?}"))
-        }
-        _ => Ok(()),
     }
 }
 

@@ -1,8 +1,9 @@
 //! What was hit, by name, and how often.
 
 use std::collections::BTreeMap;
+use std::path::Path;
 
-use super::workers::Merge;
+use super::workers::{self, Merge};
 
 #[derive(Default)]
 pub struct Hits(BTreeMap<String, u64>);
@@ -40,5 +41,21 @@ pub fn account(hits: &Hits, aims: &[String], compared: &str) -> Result<String, S
     match missing.is_empty() {
         true => Ok(text + "equal throughout; all of these were hit\n"),
         false => Err(format!("{text}not hit: {}: more files?", missing.join("; "))),
+    }
+}
+
+/// Compares so many items, or `only` this one, as [`workers::each`] does; says how often they hit each
+/// aim.
+pub fn compare(
+    count: u64,
+    only: Option<u64>,
+    items: &str,
+    aims: &[String],
+    one: impl Fn(u64, &Path, &mut Hits) -> Result<(), String> + Sync,
+) -> Result<String, String> {
+    let total = workers::each(workers::items(count, only), one)?;
+    match only {
+        Some(_) => Ok("equal\n".into()),
+        None => account(&total, aims, &format!("{count} {items}")),
     }
 }

@@ -5,24 +5,20 @@
 pub mod aims;
 mod wrong;
 
+use super::cases::{and_unplanned, Case, Plan, Reading, Way};
 use super::driver::{Driver, Style};
 use super::page::Page;
 use super::random::Random;
 use super::texts::spelling::{any_line, spell_number, Word};
-use super::texts::{self, alter, keep_small, widen, Writer};
+use super::texts::{self, keep_small, Writer};
 use super::ways::{at_rest, phase_name, signal_name};
 use crate::bus::{Action, Bus, Mode, Phase, Record, Report, Reported};
-use crate::plain::Fault;
 use crate::questions::Asked;
 use crate::routes::{self, Question, DEEPEST, MOST_NODES};
 pub use wrong::{End, Wrong};
 
-/// A text, and what must be read of it: the question, or the fault and the number of its line. None
-/// without a plan.
-pub struct QuestionCase {
-    pub text: Vec<u8>,
-    pub expected: Option<Result<Asked, (u64, Fault)>>,
-}
+pub type QuestionCase = Case<Reading<Asked>>;
+pub type QuestionWay = Way<QuestionPlan>;
 
 /// Where a run from a fresh bus can stop: a phase, or the signal that is under way. A Gap never is.
 pub const PLACES: [&str; 12] = [
@@ -39,7 +35,7 @@ pub fn place_name(phase: Phase) -> &'static str {
 }
 
 #[derive(Clone, Copy, PartialEq, Eq, Debug)]
-pub enum QuestionWay {
+pub enum QuestionPlan {
     /// A right question at such a place.
     At(&'static str),
     /// While a node is Asked, and another waits for an acknowledgement.
@@ -48,59 +44,51 @@ pub enum QuestionWay {
     WrongRun(texts::Wrong),
     WrongLine(Wrong),
     WrongEnd(End),
-    Mutated,
-    /// Words of the grammar and others, in any order.
-    AnyWords,
-    /// A right text in UTF-16.
-    Wide,
-    AnyBytes,
 }
 
-impl QuestionWay {
-    pub fn all() -> Vec<QuestionWay> {
+impl Plan for QuestionPlan {
+    type Expected = Reading<Asked>;
+
+    fn ways() -> Vec<QuestionWay> {
         // Right ones about as often as all others together.
-        let mut all = PLACES.map(QuestionWay::At).repeat(14);
+        let mut plans = PLACES.map(QuestionPlan::At).repeat(14);
         // From there on a report is rarely near.
-        all.extend([QuestionWay::At("Start"), QuestionWay::At("Granting")].repeat(8));
-        all.extend([QuestionWay::WhileAsked; 8]);
-        all.extend(texts::Wrong::all().into_iter().map(QuestionWay::WrongRun));
+        plans.extend([QuestionPlan::At("Start"), QuestionPlan::At("Granting")].repeat(8));
+        plans.extend([QuestionPlan::WhileAsked; 8]);
+        plans.extend(texts::Wrong::all().into_iter().map(QuestionPlan::WrongRun));
         // With the byte order mark these are rare.
         let long = [256, 257, 300, 5000].map(texts::Wrong::Long);
-        all.extend(long.map(QuestionWay::WrongRun).repeat(2));
-        all.extend([QuestionWay::WrongRun(texts::Wrong::MarkInside); 2]);
-        all.extend(Wrong::all().into_iter().map(QuestionWay::WrongLine));
-        all.extend(End::all().map(QuestionWay::WrongEnd));
-        all.extend([QuestionWay::Mutated, QuestionWay::AnyWords].repeat(6));
-        all.extend([QuestionWay::Wide, QuestionWay::Wide, QuestionWay::AnyBytes]);
-        all
+        plans.extend(long.map(QuestionPlan::WrongRun).repeat(2));
+        plans.extend([QuestionPlan::WrongRun(texts::Wrong::MarkInside); 2]);
+        plans.extend(Wrong::all().into_iter().map(QuestionPlan::WrongLine));
+        plans.extend(End::all().map(QuestionPlan::WrongEnd));
+        and_unplanned(plans, 2)
     }
 
-    pub fn make(self, random: &mut Random) -> QuestionCase {
+    fn make(self, random: &mut Random) -> QuestionCase {
         match self {
-            QuestionWay::At(place) => right(random, |bus| place_name(bus.phase) == place),
-            QuestionWay::WhileAsked => right(random, |bus| {
+            QuestionPlan::At(place) => right(random, |bus| place_name(bus.phase) == place),
+            QuestionPlan::WhileAsked => right(random, |bus| {
                 let waits = (0..bus.n).any(|node| bus.node(node).mode == Mode::AwaitAck);
                 waits && bus.asked().next().is_some()
             }),
-            QuestionWay::WrongRun(wrong) => wrong::wrong_run(random, wrong),
-            QuestionWay::WrongLine(wrong) => wrong::wrong_line(random, wrong),
-            QuestionWay::WrongEnd(end) => wrong::wrong_end(random, end),
-            QuestionWay::Mutated => {
-                let mut text = short(random);
-                alter(random, &mut text);
-                QuestionCase { text: keep_small(text), expected: None }
-            }
-            QuestionWay::AnyWords => any_words(random),
-            QuestionWay::Wide => {
-                let text = short(random);
-                QuestionCase { text: widen(random, &text), expected: None }
-            }
-            QuestionWay::AnyBytes => {
-                let length = random.below(2000);
-                let text = (0..length).map(|_| random.draw() as u8).collect();
-                QuestionCase { text, expected: None }
-            }
+            QuestionPlan::WrongRun(wrong) => wrong::wrong_run(random, wrong),
+            QuestionPlan::WrongLine(wrong) => wrong::wrong_line(random, wrong),
+            QuestionPlan::WrongEnd(end) => wrong::wrong_end(random, end),
         }
+    }
+
+    fn short(random: &mut Random) -> Vec<u8> {
+        let place = random.pick(&PLACES);
+        right(random, |bus| place_name(bus.phase) == place).text
+    }
+
+    fn any_words(random: &mut Random) -> Vec<u8> {
+        any_words(random)
+    }
+
+    fn keep_small(text: Vec<u8>) -> Vec<u8> {
+        keep_small(text)
     }
 }
 
@@ -249,12 +237,6 @@ fn right(random: &mut Random, is: impl Fn(&Bus) -> bool) -> QuestionCase {
     QuestionCase { text: writer.page.text(), expected: Some(Ok(Asked { bus, question })) }
 }
 
-/// A right text.
-fn short(random: &mut Random) -> Vec<u8> {
-    let place = random.pick(&PLACES);
-    right(random, |bus| place_name(bus.phase) == place).text
-}
-
 /// Words of the line `find` and others.
 fn any_find(random: &mut Random) -> Vec<u8> {
     let number = random.below(9);
@@ -271,7 +253,7 @@ fn any_find(random: &mut Random) -> Vec<u8> {
     words.join(&b' ')
 }
 
-fn any_words(random: &mut Random) -> QuestionCase {
+fn any_words(random: &mut Random) -> Vec<u8> {
     let n = nodes(random);
     let run = run_to(random, n, |_| true);
     let mut writer = Writer::of(random, n);
@@ -283,5 +265,5 @@ fn any_words(random: &mut Random) -> QuestionCase {
         };
         writer.page.put(&line);
     }
-    QuestionCase { text: keep_small(writer.page.text()), expected: None }
+    keep_small(writer.page.text())
 }

@@ -99,7 +99,7 @@ impl<'a> Seen<'a> {
 pub type Sight = (&'static str, fn(&Seen) -> bool);
 
 /// Ways to write, whatever is written.
-pub const STYLES: [Sight; 11] = [
+const STYLES: [Sight; 11] = [
     ("a comment", |seen| seen.any_line(|line| line.contains(&b'#'))),
     ("a tab", |seen| seen.any_line(|line| line.contains(&b'\t'))),
     ("a carriage return", |seen| seen.any_line(|line| line.contains(&b'\r'))),
@@ -117,7 +117,7 @@ pub const STYLES: [Sight; 11] = [
 ];
 
 /// The byte order mark.
-pub const MARKS: [Sight; 10] = [
+const MARKS: [Sight; 10] = [
     ("before a right text", |seen| seen.marked && seen.fault.is_none()),
     ("before a text with a fault", |seen| seen.marked && seen.wrong.is_some()),
     ("before a line of 255 bytes", |seen| {
@@ -141,7 +141,7 @@ pub const MARKS: [Sight; 10] = [
 ];
 
 /// A word between quotes.
-pub const WORDS: [Sight; 12] = [
+const WORDS: [Sight; 12] = [
     ("of 64 bytes", |seen| seen.word().len() == 64 && !seen.word().contains(r"\x")),
     ("cut after 64 bytes", |seen| seen.word().ends_with("..")),
     ("cut after 64 bytes, a number", |seen| {
@@ -165,7 +165,7 @@ pub const WORDS: [Sight; 12] = [
 ];
 
 /// The statement of a refused line.
-pub const STATEMENTS: [Sight; 6] = [
+const STATEMENTS: [Sight; 6] = [
     ("with a tab", |seen| seen.statement().contains(&b'\t')),
     ("with a carriage return", |seen| seen.statement().contains(&b'\r')),
     ("before a comment", |seen| {
@@ -178,15 +178,34 @@ pub const STATEMENTS: [Sight; 6] = [
 
 /// What the texts of one grammar must hit.
 pub struct Aims {
-    pub faults: Vec<Fault>,
+    faults: Vec<Fault>,
     /// Each fault with what its cause says of a field or of a word.
-    pub causes: Vec<(Fault, String)>,
-    pub words: Vec<&'static str>,
+    causes: Vec<(Fault, String)>,
+    words: Vec<&'static str>,
     /// Tables of sights, each with what they are sights of.
-    pub sights: Vec<(&'static str, &'static [Sight])>,
+    sights: Vec<(&'static str, &'static [Sight])>,
 }
 
 impl Aims {
+    /// With the sights of all texts, those of `texts` among them, and then with more.
+    pub fn new(
+        faults: Vec<Fault>,
+        causes: Vec<(Fault, String)>,
+        words: Vec<&'static str>,
+        texts: &'static [Sight],
+        more: &[(&'static str, &'static [Sight])],
+    ) -> Aims {
+        let mut sights: Vec<(&'static str, &'static [Sight])> = vec![
+            ("text", &STYLES),
+            ("text", texts),
+            ("byte order mark", &MARKS),
+            ("quoted word", &WORDS),
+            ("statement", &STATEMENTS),
+        ];
+        sights.extend(more);
+        Aims { faults, causes, words, sights }
+    }
+
     /// Each name, and whether a text hits it.
     fn each<'a>(&'a self, seen: Option<&'a Seen>) -> impl Iterator<Item = (String, bool)> + 'a {
         let hits = move |is: &dyn Fn(&Seen) -> bool| seen.is_some_and(is);

@@ -5,25 +5,20 @@
 pub mod aims;
 mod wrong;
 
+use super::cases::{and_unplanned, Case, Plan, Reading, Way};
 use super::page::Page;
 use super::random::Random;
 use super::texts::spelling::{join, no_number, spell_number, too_large, unknown_word, Slot, Word};
-use super::texts::{alter, widen};
 use super::ways;
 use crate::bus::ALL_NODES;
-use crate::plain::Fault;
 use crate::trial::{Settings, User};
 pub use wrong::{End, Wrong};
 
-/// A text, and what must be read of it: the settings, or the fault and the number of its line. None
-/// without a plan.
-pub struct SettingsCase {
-    pub text: Vec<u8>,
-    pub expected: Option<Result<Settings, (u64, Fault)>>,
-}
+pub type SettingsCase = Case<Reading<Settings>>;
+pub type SettingsWay = Way<SettingsPlan>;
 
 #[derive(Clone, Copy, PartialEq, Eq, Debug)]
-pub enum SettingsWay {
+pub enum SettingsPlan {
     Right,
     /// For just so many actions.
     RightOf(u16),
@@ -31,65 +26,57 @@ pub enum SettingsWay {
     ManyLines,
     WrongLine(Wrong),
     WrongEnd(End),
-    Mutated,
-    /// Words of the grammar and others, in any order.
-    AnyWords,
-    /// A right text in UTF-16.
-    Wide,
-    AnyBytes,
 }
 
-impl SettingsWay {
-    pub fn all() -> Vec<SettingsWay> {
+/// The plans of those with a fault.
+fn wrong_ones() -> impl Iterator<Item = SettingsPlan> {
+    let lines = Wrong::all().into_iter().map(SettingsPlan::WrongLine);
+    lines.chain(End::all().map(SettingsPlan::WrongEnd))
+}
+
+impl Plan for SettingsPlan {
+    type Expected = Reading<Settings>;
+
+    fn ways() -> Vec<SettingsWay> {
         // Right ones as often as all others together.
-        let mut others: Vec<SettingsWay> = Vec::new();
-        others.extend(Wrong::all().into_iter().map(SettingsWay::WrongLine));
-        others.extend(End::all().map(SettingsWay::WrongEnd));
-        others.extend([SettingsWay::Mutated, SettingsWay::AnyWords].repeat(6));
-        others.extend([SettingsWay::Wide, SettingsWay::AnyBytes]);
-        let mut right: Vec<SettingsWay> =
-            [1, 2, 30, 31, 32, 61, 62, 63, 93, 94, 65_535].map(SettingsWay::RightOf).into();
-        right.push(SettingsWay::ManyLines);
-        right.resize(others.len(), SettingsWay::Right);
-        right.into_iter().zip(others).flat_map(|(right, other)| [right, other]).collect()
+        let others = and_unplanned(wrong_ones(), 1);
+        let mut right: Vec<SettingsPlan> =
+            [1, 2, 30, 31, 32, 61, 62, 63, 93, 94, 65_535].map(SettingsPlan::RightOf).into();
+        right.push(SettingsPlan::ManyLines);
+        right.resize(others.len(), SettingsPlan::Right);
+        let right = right.into_iter().map(Way::Planned);
+        right.zip(others).flat_map(|(right, other)| [right, other]).collect()
     }
 
-    pub fn make(self, random: &mut Random) -> SettingsCase {
+    fn make(self, random: &mut Random) -> SettingsCase {
         match self {
-            SettingsWay::Right => {
+            SettingsPlan::Right => {
                 let actions = actions(random);
                 right(random, actions)
             }
-            SettingsWay::RightOf(actions) => right(random, actions),
-            SettingsWay::ManyLines => many_lines(random),
-            SettingsWay::WrongLine(wrong) => wrong::wrong_line(random, wrong),
-            SettingsWay::WrongEnd(end) => wrong::wrong_end(random, end),
-            SettingsWay::Mutated => {
-                let mut text = short(random);
-                alter(random, &mut text);
-                SettingsCase { text, expected: None }
-            }
-            SettingsWay::AnyWords => any_words(random),
-            SettingsWay::Wide => {
-                let text = short(random);
-                SettingsCase { text: widen(random, &text), expected: None }
-            }
-            SettingsWay::AnyBytes => {
-                let length = random.below(2000);
-                let text = (0..length).map(|_| random.draw() as u8).collect();
-                SettingsCase { text, expected: None }
-            }
+            SettingsPlan::RightOf(actions) => right(random, actions),
+            SettingsPlan::ManyLines => many_lines(random),
+            SettingsPlan::WrongLine(wrong) => wrong::wrong_line(random, wrong),
+            SettingsPlan::WrongEnd(end) => wrong::wrong_end(random, end),
         }
+    }
+
+    /// For few actions.
+    fn short(random: &mut Random) -> Vec<u8> {
+        let actions = random.between(1, 300) as u16;
+        right(random, actions).text
+    }
+
+    fn any_words(random: &mut Random) -> Vec<u8> {
+        any_words(random)
     }
 }
 
 /// A text of settings, right ones or ones with a fault.
 pub fn made(random: &mut Random, wrong: bool) -> Vec<u8> {
-    let is_wrong =
-        |way: &SettingsWay| matches!(way, SettingsWay::WrongLine(_) | SettingsWay::WrongEnd(_));
-    let ways: Vec<SettingsWay> = SettingsWay::all().into_iter().filter(is_wrong).collect();
-    let way = if wrong { random.pick(&ways) } else { SettingsWay::Right };
-    way.make(random).text
+    let wrong_ones: Vec<SettingsPlan> = wrong_ones().collect();
+    let plan = if wrong { random.pick(&wrong_ones) } else { SettingsPlan::Right };
+    plan.make(random).text
 }
 
 /// How many actions a trial has: mostly so many that each user may win some times.
@@ -389,12 +376,6 @@ fn shuffle<T>(random: &mut Random, items: &mut [T]) {
     }
 }
 
-/// A right text for few actions.
-fn short(random: &mut Random) -> Vec<u8> {
-    let actions = random.between(1, 300) as u16;
-    right(random, actions).text
-}
-
 /// A word of the grammar, or another.
 fn any_word(random: &mut Random) -> Word {
     let small = random.below(70);
@@ -422,7 +403,7 @@ fn any_line(random: &mut Random) -> Vec<u8> {
     join(random, &words)
 }
 
-fn any_words(random: &mut Random) -> SettingsCase {
+fn any_words(random: &mut Random) -> Vec<u8> {
     let n = ways::nodes(random);
     let mut writer = Writer::new(random, n);
     if writer.page.random.percent(90) {
@@ -434,5 +415,5 @@ fn any_words(random: &mut Random) -> SettingsCase {
         let line = any_line(writer.page.random);
         writer.page.put(&line);
     }
-    SettingsCase { text: writer.page.text(), expected: None }
+    writer.page.text()
 }

@@ -5,21 +5,20 @@ pub mod aims;
 pub mod spelling;
 pub(super) mod wrong;
 
+use super::cases::{and_unplanned, Case, Plan, Way};
 use super::page::Page;
 use super::random::Random;
 use super::ways::{self, names, Field, KINDS};
 use crate::bus::{Record, ALL_NODES};
-use crate::notation::{self, Fault, Line, MARK};
+use crate::notation::{self, Fault, Line};
 use crate::runfile::{BLOCK, FULL};
 use spelling::{any_line, Slot, Word, NAMES};
 pub use wrong::{End, Wrong};
 
-/// A text, and what must come of it; None without a plan.
-pub struct TextCase {
-    pub text: Vec<u8>,
-    pub expected: Option<Expected>,
-}
+pub type TextCase = Case<Expected>;
+pub type TextWay = Way<TextPlan>;
 
+/// What must come of a text.
 pub struct Expected {
     pub file: Vec<u8>,
     /// Which line says what.
@@ -29,7 +28,7 @@ pub struct Expected {
 }
 
 #[derive(Clone, Copy, PartialEq, Eq, Debug)]
-pub enum TextWay {
+pub enum TextPlan {
     Right,
     /// Of just so many actions.
     RightOf(usize),
@@ -37,48 +36,52 @@ pub enum TextWay {
     Repeats,
     WrongLine(Wrong),
     WrongEnd(End),
-    Mutated,
-    /// Words of the grammar and others, in any order.
-    AnyWords,
-    /// A right text in UTF-16.
-    Wide,
-    AnyBytes,
 }
 
-impl TextWay {
-    pub fn all() -> Vec<TextWay> {
+impl Plan for TextPlan {
+    type Expected = Expected;
+
+    fn ways() -> Vec<TextWay> {
         // Right ones more often than each of the others.
-        let mut all = [TextWay::Right, TextWay::Repeats].repeat(8);
-        all.extend([1, 2, 30, 31, 32, 61, 62, 63, 93, 94].map(TextWay::RightOf));
-        all.extend(Wrong::all().into_iter().map(TextWay::WrongLine));
-        all.extend(End::all().map(TextWay::WrongEnd));
-        all.extend([TextWay::Mutated, TextWay::AnyWords].repeat(6));
-        all.extend([TextWay::Wide, TextWay::AnyBytes]);
-        all
+        let mut plans = [TextPlan::Right, TextPlan::Repeats].repeat(8);
+        plans.extend([1, 2, 30, 31, 32, 61, 62, 63, 93, 94].map(TextPlan::RightOf));
+        plans.extend(Wrong::all().into_iter().map(TextPlan::WrongLine));
+        plans.extend(End::all().map(TextPlan::WrongEnd));
+        and_unplanned(plans, 1)
     }
 
-    pub fn make(self, random: &mut Random) -> TextCase {
+    fn make(self, random: &mut Random) -> TextCase {
         match self {
-            TextWay::Right => {
+            TextPlan::Right => {
                 let actions = match random.below(10) {
                     0..=6 => random.between(1, 100),
                     _ => random.between(100, 800),
                 };
                 right(random, actions as usize)
             }
-            TextWay::RightOf(actions) => right(random, actions),
-            TextWay::Repeats => repeats(random),
-            TextWay::WrongLine(wrong) => wrong::wrong_line(random, wrong),
-            TextWay::WrongEnd(end) => wrong::wrong_end(random, end),
-            TextWay::Mutated => mutated(random),
-            TextWay::AnyWords => any_words(random),
-            TextWay::Wide => wide(random),
-            TextWay::AnyBytes => {
-                let length = random.below(2000);
-                let text = (0..length).map(|_| random.draw() as u8).collect();
-                TextCase { text, expected: None }
-            }
+            TextPlan::RightOf(actions) => right(random, actions),
+            TextPlan::Repeats => repeats(random),
+            TextPlan::WrongLine(wrong) => wrong::wrong_line(random, wrong),
+            TextPlan::WrongEnd(end) => wrong::wrong_end(random, end),
         }
+    }
+
+    fn short(random: &mut Random) -> Vec<u8> {
+        let actions = random.between(1, 80) as usize;
+        right(random, actions).text
+    }
+
+    fn shorter(random: &mut Random) -> Vec<u8> {
+        let actions = random.between(1, 20) as usize;
+        right(random, actions).text
+    }
+
+    fn any_words(random: &mut Random) -> Vec<u8> {
+        any_words(random)
+    }
+
+    fn keep_small(text: Vec<u8>) -> Vec<u8> {
+        keep_small(text)
     }
 }
 
@@ -232,39 +235,6 @@ fn repeats(random: &mut Random) -> TextCase {
     writer.composes()
 }
 
-/// A right text with some bytes altered.
-fn mutated(random: &mut Random) -> TextCase {
-    let actions = random.between(1, 80) as usize;
-    let mut text = right(random, actions).text;
-    alter(random, &mut text);
-    TextCase { text: keep_small(text), expected: None }
-}
-
-/// Alters some bytes of a text.
-pub fn alter(random: &mut Random, text: &mut Vec<u8>) {
-    for _ in 0..random.between(1, 4) {
-        if text.is_empty() {
-            break;
-        }
-        let place = random.below(text.len() as u64) as usize;
-        let any = random.draw() as u8;
-        let byte = random.pick(&[b' ', b'\n', b'#', b'*', b'0', b'9', b'x', b'\r', b'\t', any]);
-        match random.below(7) {
-            0..=1 => text[place] = byte,
-            2 => text.insert(place, byte),
-            3 => {
-                text.remove(place);
-            }
-            4 => text[place] ^= 1 << random.below(8),
-            5 => {
-                let piece = random.pick(&[MARK, &MARK[..2], b"\xc2\xa0", b"\0"]);
-                text.splice(place..place, piece.iter().copied());
-            }
-            _ => text.truncate(place),
-        }
-    }
-}
-
 /// A digit more may make a repeat of millions: blocks without end are tried elsewhere.
 pub(super) fn keep_small(text: Vec<u8>) -> Vec<u8> {
     let large = |line: &[u8]| match notation::read_line(line) {
@@ -275,7 +245,7 @@ pub(super) fn keep_small(text: Vec<u8>) -> Vec<u8> {
     lines.collect::<Vec<_>>().join(&b'\n')
 }
 
-fn any_words(random: &mut Random) -> TextCase {
+fn any_words(random: &mut Random) -> Vec<u8> {
     let mut writer = Writer::new(random);
     if writer.page.random.percent(90) {
         writer.nodes();
@@ -293,23 +263,5 @@ fn any_words(random: &mut Random) -> TextCase {
         }
         writer.page.put(&line);
     }
-    TextCase { text: keep_small(writer.page.text()), expected: None }
-}
-
-fn wide(random: &mut Random) -> TextCase {
-    let actions = random.between(1, 20) as usize;
-    let text = right(random, actions).text;
-    TextCase { text: widen(random, &text), expected: None }
-}
-
-/// Two bytes for each of a text, the one or the other first, with the mark of that or without.
-pub fn widen(random: &mut Random, text: &[u8]) -> Vec<u8> {
-    let low_first = random.percent(50);
-    let pair = |&byte| if low_first { [byte, 0] } else { [0, byte] };
-    let mut wide = Vec::new();
-    if random.percent(70) {
-        wide.extend(if low_first { [0xff, 0xfe] } else { [0xfe, 0xff] });
-    }
-    wide.extend(text.iter().flat_map(pair));
-    wide
+    keep_small(writer.page.text())
 }

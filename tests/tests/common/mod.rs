@@ -2,6 +2,7 @@
 #![allow(dead_code)]
 
 pub mod chart;
+pub mod plain;
 pub mod stand_ins;
 
 use bench_model::bus::{Action, Bus, Head, Packet, Record};

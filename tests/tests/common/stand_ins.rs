@@ -38,6 +38,20 @@ impl Room {
         let text = |bytes| String::from_utf8(bytes).expect("plain text");
         (said.status.code().unwrap_or(-1), text(said.stdout), text(said.stderr))
     }
+
+    /// The same for one that fails, and says this among other things: all that it says.
+    pub fn fails(&self, words: &[&str], programs: &[&Path], part: &str) -> String {
+        let (status, output, errors) = self.run(words, programs);
+        assert_eq!((status, &output[..]), (1, ""));
+        assert!(errors.contains(part), "{errors}, not {part}");
+        errors
+    }
+
+    /// A comparison in which all are equal, and too few to hit all.
+    pub fn hits_too_few(&self, words: &[&str], programs: &[&Path], compared: &str) {
+        let errors = self.fails(words, programs, "not hit: ");
+        assert!(errors.starts_with(&format!("model: {compared}; hit:\n")), "{errors}");
+    }
 }
 
 impl Drop for Room {

@@ -2,7 +2,7 @@
 
 use crate::bus::Report;
 use crate::harness::answers;
-use crate::harness::seen::{self, is_blank, of, Aims, Seen, Sight};
+use crate::harness::seen::{is_blank, of, Aims, Seen, Sight};
 use crate::harness::texts::aims as of_runs;
 use crate::harness::texts::spelling::NAMES;
 use crate::notation::{self, print_action};
@@ -140,19 +140,7 @@ const TEXTS: [Sight; 17] = [
 
 /// All there is to hit.
 fn all() -> Aims {
-    Aims {
-        faults: faults(),
-        causes: causes(),
-        words: known_words(),
-        sights: vec![
-            ("text", &seen::STYLES),
-            ("text", &TEXTS),
-            ("byte order mark", &seen::MARKS),
-            ("quoted word", &seen::WORDS),
-            ("statement", &seen::STATEMENTS),
-            ("statement", &of_runs::REPEATED),
-        ],
-    }
+    Aims::new(faults(), causes(), known_words(), &TEXTS, &[("statement", &of_runs::REPEATED)])
 }
 
 fn not_open(name: &str) -> String {

@@ -189,12 +189,12 @@ fn find_words(writer: &mut Writer, wrong: Wrong) -> (Vec<Word>, Fault) {
             return (words, Fault::MissingField);
         }
         Wrong::Report => {
-            words[REPORT] = no_report(writer.page.random);
+            words[REPORT] = misplaced(writer.page.random, &NO_REPORT);
             spoil_rest(writer.page.random, &mut words, REPORT + 1);
             Fault::UnknownWord
         }
         Wrong::Within => {
-            words[WITHIN] = not_within(writer.page.random);
+            words[WITHIN] = misplaced(writer.page.random, &NOT_WITHIN);
             spoil_rest(writer.page.random, &mut words, WITHIN + 1);
             Fault::UnknownWord
         }
@@ -244,20 +244,15 @@ fn refused(writer: &mut Writer, wrong: Wrong) -> (Vec<Word>, Fault) {
     (spell(&mut writer.page, &any), Fault::Refused(number))
 }
 
-/// A word that is no report.
-fn no_report(random: &mut Random) -> Word {
-    let near = ["Miss", "misses", "DROP", "within", "find", "0", "request", "all", "*", "won,"];
-    let near = Word::from(random.pick(&near));
-    match random.percent(60) {
-        true => near,
-        false => unknown_word(random),
-    }
-}
+/// What may stand in the place of the report, of `within`.
+const NO_REPORT: [&str; 10] =
+    ["Miss", "misses", "DROP", "within", "find", "0", "request", "all", "*", "won,"];
+const NOT_WITHIN: [&str; 10] =
+    ["Within", "in", "withi", "within6", "3", "0x6", "*", "miss", "find", "depth"];
 
-/// A word that is not `within`.
-fn not_within(random: &mut Random) -> Word {
-    let near = ["Within", "in", "withi", "within6", "3", "0x6", "*", "miss", "find", "depth"];
-    let near = Word::from(random.pick(&near));
+/// One of these, or an unknown word.
+fn misplaced(random: &mut Random, words: &[&str]) -> Word {
+    let near = Word::from(random.pick(words));
     match random.percent(60) {
         true => near,
         false => unknown_word(random),

@@ -3,7 +3,7 @@
 use super::wrong::FIELDS;
 use super::{NAMES, USER_WORDS};
 use crate::bus::ALL_NODES;
-use crate::harness::seen::{self, is_blank, of, Aims, Seen, Sight, HINTS};
+use crate::harness::seen::{is_blank, of, Aims, Seen, Sight, HINTS};
 use crate::plain::{words, Complaint, Fault};
 use crate::settings::{read_line, Line};
 use crate::trial::{Settings, User};
@@ -156,18 +156,7 @@ const VALUES: [Value; 23] = [
 
 /// All that a text can hit.
 fn all() -> Aims {
-    Aims {
-        faults: FAULTS.into(),
-        causes: causes(),
-        words: known_words(),
-        sights: vec![
-            ("text", &seen::STYLES),
-            ("text", &TEXTS),
-            ("byte order mark", &seen::MARKS),
-            ("quoted word", &seen::WORDS),
-            ("statement", &seen::STATEMENTS),
-        ],
-    }
+    Aims::new(FAULTS.into(), causes(), known_words(), &TEXTS, &[])
 }
 
 fn of_settings(name: &str) -> String {

@@ -2,7 +2,7 @@
 
 use super::spelling::NAMES;
 use crate::bus::is_label;
-use crate::harness::seen::{self, of, Aims, Seen, Sight, HINTS};
+use crate::harness::seen::{of, Aims, Seen, Sight, HINTS};
 use crate::notation::{self, Complaint, Fault, Line};
 use crate::runfile::FULL;
 
@@ -146,20 +146,8 @@ const LABELS: [Sight; 11] = [
 
 /// All there is to hit.
 fn all() -> Aims {
-    Aims {
-        faults: FAULTS.into(),
-        causes: causes(),
-        words: known_words(),
-        sights: vec![
-            ("text", &seen::STYLES),
-            ("text", &TEXTS),
-            ("byte order mark", &seen::MARKS),
-            ("quoted word", &seen::WORDS),
-            ("statement", &seen::STATEMENTS),
-            ("statement", &REPEATED),
-            ("label", &LABELS),
-        ],
-    }
+    let more: [(_, &[Sight]); 2] = [("statement", &REPEATED), ("label", &LABELS)];
+    Aims::new(FAULTS.into(), causes(), known_words(), &TEXTS, &more)
 }
 
 pub fn aims() -> Vec<String> {
