@@ -73,7 +73,7 @@ fn bare(found: bool) -> Trail
     }
 }
 
-// The trail after an action. (The last place is free: a route has at most 6 records.)
+// The trail with an action before it. The last place is free: a route has at most 6 records.
 fn prepend(a: Action, t: Trail) -> Trail
     ensures { λ r. ⌜ r ≡ prepended a t ⌝ }
 {
@@ -84,7 +84,7 @@ fn prepend(a: Action, t: Trail) -> Trail
     }
 }
 
-// The first route of just `left` bus events to a report that is asked for, where the bus has given that report.
+// The first route of just `left` bus events; `report` is what the last event so far has given, and with none left it is asked for or it is not.
 pub(crate) fn search(b: Bus, report: Report, q: Question, left: u8) -> Trail
     requires { ⌜ valid (view b) ≡ true ⌝ }
     ensures { λ r. ⌜ r ≡ trailOf (searched left (view b) report q) ⌝ }
