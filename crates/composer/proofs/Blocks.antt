@@ -13,7 +13,7 @@ use Rattle.runfile.specs.Write.{writeNumber, blockOf}
 use Rattle.files.proofs.Rows.{stored-size, stored-holds}
 use Rattle.notation.specs.declared.Stage.the-variants.{Going}
 use Rattle.composer.specs.declared.Composer.{Composer}
-use Rattle.notation.specs.Words.{limit}
+use Rattle.words.specs.Words.{limit}
 use Rattle.composer.specs.Composer.{quiet, stored, withBlock, recordsIn, flushOf, heldAfter, putOf, putHeld}
 
 -- a composer at block i, in which the records of l stand

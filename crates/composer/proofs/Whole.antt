@@ -21,7 +21,7 @@ use Rattle.faults.specs.declared.Fault.the-variants as F
 use Rattle.notation.specs.declared.Text.the-variants.{Run}
 use Rattle.notation.specs.declared.Line.{Line}
 use Rattle.notation.specs.declared.Line.the-variants as L
-use Rattle.notation.specs.Words.{limit}
+use Rattle.words.specs.Words.{limit}
 use Rattle.notation.specs.Grammar.{lineOf}
 use Rattle.notation.specs.Meaning.{Meaning, run, wrong, Said, on, off, readOn, nodesOn, lineOn, endOn, afterLine, meaningFrom, linesOf, unmarked, meaningOf}
 use Rattle.notation.specs.declared.Stage.{Stage}

@@ -22,7 +22,7 @@ use Rattle.notation.specs.declared.Stage.{Stage}
 use Rattle.notation.specs.declared.Stage.the-variants.{Going, Stopped}
 use Rattle.composer.specs.declared.Composer.{Composer}
 use Rattle.composer.specs.declared.Wrote.{Wrote}
-use Rattle.notation.specs.Words.{limit}
+use Rattle.words.specs.Words.{limit}
 use Rattle.notation.specs.Grammar.{lineOf}
 use Rattle.notation.specs.Reading.{isStopped, counted, nodesStage}
 

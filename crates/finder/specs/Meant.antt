@@ -15,9 +15,9 @@ use Rattle.notation.specs.declared.Text.{Text}
 use Rattle.notation.specs.declared.Text.the-variants as T
 use Rattle.notation.specs.declared.Line.{Line}
 use Rattle.notation.specs.declared.Line.the-variants as L
-use Rattle.notation.specs.Words as W
+use Rattle.words.specs.Words as W
+use Rattle.words.specs.Words.{kindOf}
 use Rattle.notation.specs.Grammar.{lineOf}
-use Rattle.notation.specs.Blame.{kindOf}
 use Rattle.notation.specs.Meaning.{linesOf, unmarked}
 use Rattle.finder.specs.Reader.{Reader, started, feedOf, finishOf}
 

@@ -17,16 +17,17 @@ use Rattle.record.specs.Layout.{Fits}
 use Rattle.runfile.proofs.Loops.{and-left, and-right}
 use Rattle.transcript.specs.Text.{ascii, decimal}
 use Rattle.transcript.proofs.Decimals.{decimal-short}
-use Rattle.notation.specs.declared.words.Token.{Token}
-use Rattle.notation.specs.declared.words.Token.the-variants.{Word, Number}
+use Rattle.words.specs.declared.Token.{Token}
+use Rattle.words.specs.declared.Token.the-variants.{Word, Number}
 use Rattle.notation.specs.declared.Text.the-variants.{Run}
 use Rattle.notation.specs.declared.Line.the-variants.{Acts}
-use Rattle.notation.specs.Words.{tokenOf, nameOf, digitOf}
+use Rattle.words.specs.Words.{tokenOf, nameOf, digitOf}
 use Rattle.notation.specs.Grammar.{got, recordOf, optionIn, saidIn, numberIn, addressIn, addressOrNone, endingOf, requestOf, nodeOf, respondOf, changeOf, actionOf, restOf, namedOf, saidBy, lineOf}
-use Rattle.notation.specs.Lines.{spaced}
+use Rattle.words.specs.Lines.{spaced}
 use Rattle.transcript.specs.Printed.{addressWord, labelWords, holdWord, changeWord, wordsFor}
-use Rattle.notation.proofs.Spaced.{Good, good-by, said-line}
-use Rattle.notation.proofs.Figures.{decimal-good, token-decimal}
+use Rattle.words.proofs.Spaced.{Good, good-by}
+use Rattle.words.proofs.Figures.{decimal-good, token-decimal}
+use Rattle.notation.proofs.Said.{said-line}
 
 -- a record is told by its fields
 same-action : (a : Action) (kind node address ack hold label b6 b7 header datum : ℕ)

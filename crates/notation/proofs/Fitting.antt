@@ -17,9 +17,9 @@ use Rattle.notation.specs.declared.Text.the-variants.{Run, Settings, Que
 use Rattle.notation.specs.declared.Line.{Line}
 use Rattle.notation.specs.declared.Line.the-variants.{Blank, Nodes, Acts, Actions, Finds, Wrong}
 use Rattle.notation.specs.declared.Line.the-variants as L
-use Rattle.notation.specs.declared.words.Token.{Token}
-use Rattle.notation.specs.declared.words.Token.the-variants.{Word, Number, Large}
-use Rattle.notation.specs.Words as W
+use Rattle.words.specs.declared.Token.{Token}
+use Rattle.words.specs.declared.Token.the-variants.{Word, Number, Large}
+use Rattle.words.specs.Words as W
 use Rattle.notation.specs.Grammar.{Part, got, bad, after, isWord, byte, long, numeral, numberIn, addressAt, addressIn, addressOrNone, optionIn, saidIn, toIn, holdIn, lastOf, timesOf, repeatOf, endingOf, recordOf, requestOf, nodeOf, respondOf, changeOf, actionOf, nodesThen, nodesOf, short, actionsThen, actionsOf, userOf, isReport, reportIn, depthIn, findOf, runOf, restOf, namedOf, saidBy, lineOf}
 
 abbrev pub Fitting : Line → Type 0

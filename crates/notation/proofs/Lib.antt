@@ -1,11 +1,7 @@
-pub mod WordLaws
-pub mod Spaced
-pub mod Figures
+pub mod Said
 pub mod Actions
 pub mod Texts
 pub mod Fitting
-pub mod Marks
 pub mod Users
 pub mod Readers
-pub mod Told
 pub mod Questions

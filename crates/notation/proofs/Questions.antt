@@ -11,14 +11,13 @@ use Rattle.charts.specs.declared.Word as Report
 use Rattle.charts.specs.declared.Word.the-variants as R
 use Rattle.runfile.proofs.Loops.{and-left}
 use Rattle.transcript.specs.Text.{ascii}
-use Rattle.notation.specs.declared.words.Token.{Token}
-use Rattle.notation.specs.declared.words.Token.the-variants.{Word, Number, Large}
+use Rattle.words.specs.declared.Token.{Token}
+use Rattle.words.specs.declared.Token.the-variants.{Word, Number, Large}
 use Rattle.notation.specs.declared.Text.the-variants.{Run, Question}
 use Rattle.notation.specs.declared.Line.the-variants.{Finds}
-use Rattle.notation.specs.Words as W
-use Rattle.notation.specs.Words.{nameOf, digitOf, digitsOf, tokenOf, tokensOf}
+use Rattle.words.specs.Words as W
+use Rattle.words.specs.Words.{nameOf, digitOf, digitsOf, tokenOf, tokensOf, kindIn, kindOf}
 use Rattle.notation.specs.Grammar.{numberIn, lastOf, isReport, reportIn, wordNumbered, depthIn, findOf, restOf, namedOf, saidBy, lineOf}
-use Rattle.notation.specs.Blame.{kindIn, kindOf}
 
 said-as-run : (l : List Token) → eqb (kindIn l) W.find ≡ false → saidBy Question l ≡ saidBy Run l
 unfolding saidBy namedOf restOf

@@ -13,17 +13,18 @@ use Rattle.runfile.proofs.Loops.{and-left, and-right}
 use Rattle.transcript.specs.Text.{ascii, decimal}
 use Rattle.transcript.specs.Lines.{line, nodesLine}
 use Rattle.transcript.proofs.Decimals.{decimal-short}
-use Rattle.notation.specs.declared.words.Token.the-variants.{Word, Number}
+use Rattle.words.specs.declared.Token.the-variants.{Word, Number}
 use Rattle.notation.specs.declared.Text.the-variants.{Run}
 use Rattle.notation.specs.declared.Line.the-variants.{Nodes}
-use Rattle.notation.specs.Words.{tokenOf, nameOf, digitOf}
+use Rattle.words.specs.Words.{tokenOf, nameOf, digitOf}
 use Rattle.notation.specs.Grammar.{saidBy, namedOf, nodesOf, numberIn, lastOf, lineOf}
-use Rattle.notation.specs.Lines.{spaced}
+use Rattle.words.specs.Lines.{spaced}
 use Rattle.transcript.specs.Printed.{addressWord, wordsFor, actionLine}
 use Rattle.notation.specs.Reading.{nodesStage}
 use Rattle.notation.specs.Meaning.{run, linesFrom, linesOf, markSize, meaningFrom, endOn, meaningOf, actionLines, textOf, Accepts, AllAccepted}
-use Rattle.notation.proofs.Spaced.{Plain, Good, good-by, AllGood, said-line, line-spaced}
-use Rattle.notation.proofs.Figures.{decimal-good, token-decimal}
+use Rattle.words.proofs.Spaced.{Plain, Good, good-by, AllGood, line-spaced}
+use Rattle.words.proofs.Figures.{decimal-good, token-decimal}
+use Rattle.notation.proofs.Said.{said-line}
 use Rattle.notation.proofs.Actions.{line-back}
 
 -- bytes without a newline

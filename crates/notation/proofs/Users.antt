@@ -2,9 +2,9 @@
 use mathlib.Core.Path.{_≡_}
 use mathlib.Core.List.{List}
 use Prim.Native.Nat.{ℕ}
-use Rattle.notation.specs.declared.words.Token.{Token}
+use Rattle.words.specs.declared.Token.{Token}
 use Rattle.notation.specs.declared.Line.the-variants as L
-use Rattle.notation.specs.Words as W
+use Rattle.words.specs.Words as W
 use Rattle.notation.specs.Grammar.{got, byte, numberIn, saidIn, toIn, holdIn, lastOf, userWith, userOf}
 
 pub six-fields : (l l1 l2 l3 l4 l5 l6 : List Token) (node address spell fillers hold period : ℕ)

@@ -11,8 +11,8 @@ use Rattle.charts.specs.declared.Word.the-variants as R
 use Rattle.charts.specs.Records.{isKind}
 use Rattle.charts.specs.Signals.{everybody}
 use Rattle.charts.specs.Words as N
-use Rattle.notation.specs.declared.words.Token.{Token}
-use Rattle.notation.specs.declared.words.Token.the-variants.{Word, Number, Large}
+use Rattle.words.specs.declared.Token.{Token}
+use Rattle.words.specs.declared.Token.the-variants.{Word, Number, Large}
 use Rattle.notation.specs.declared.grammar.Field.{Field}
 use Rattle.notation.specs.declared.grammar.Field.the-variants as F
 use Rattle.faults.specs.declared.Fault.{Fault}
@@ -22,8 +22,8 @@ use Rattle.notation.specs.declared.Text.the-variants.{Run, Settings, Que
 use Rattle.notation.specs.declared.Line.{Line}
 use Rattle.notation.specs.declared.Line.the-variants.{Blank, Nodes, Acts, Actions, Finds, Wrong}
 use Rattle.notation.specs.declared.Line.the-variants as L
-use Rattle.notation.specs.Words as W
-use Rattle.notation.specs.Cursors.{tokensLeft}
+use Rattle.words.specs.Words as W
+use Rattle.words.specs.Cursors.{tokensLeft}
 
 -- what a production for a field gives: a value and the words after it, or what is wrong
 pub data Part : Type 0 where

@@ -20,7 +20,7 @@ use Rattle.notation.specs.declared.Line.the-variants.{Blank, Nodes, Acts
 use Rattle.notation.specs.declared.Line.the-variants as L
 use Rattle.notation.specs.declared.Stage.{Stage}
 use Rattle.notation.specs.declared.Stage.the-variants.{Going, Stopped}
-use Rattle.notation.specs.Words.{withWord}
+use Rattle.words.specs.Words.{withWord}
 use Rattle.notation.specs.Grammar.{lineOf}
 use Rattle.notation.specs.Reading.{nodesStage}
 use Rattle.transcript.specs.Printed.{actionLine}

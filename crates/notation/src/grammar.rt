@@ -2,22 +2,21 @@
 ghost use mathlib.Core.Path.{_≡_};
 ghost use Rattle.charts.specs.Records.{isKind};
 ghost use Rattle.notation.specs.declared.Text.the-variants as T;
-ghost use Rattle.notation.specs.Words.{tokensOf};
-ghost use Rattle.notation.specs.Cursors.{tokensLeft};
+ghost use Rattle.words.specs.Words.{tokensOf};
+ghost use Rattle.words.specs.Cursors.{tokensLeft};
 ghost use Rattle.notation.specs.Grammar.{seen, faultOf, fieldFits, isWord, numeral, numberIn, addressAt, addressIn, addressOrNone, saidIn, toIn, holdIn};
 ghost use Rattle.notation.specs.Grammar.{lastOf, repeatOf, endingOf, recordOf, requestOf, nodeOf, respondOf, changeOf, actionOf, nodesOf};
 ghost use Rattle.notation.specs.Grammar.{actionsOf, userWith, userOf, isReport, reportAt, reportIn, wordNumbered, depthIn, findOf, runOf, restOf, namedOf, saidBy};
 use crate::Line;
 use crate::Text;
-use crate::words;
-use crate::words::Cursor;
-use crate::words::Step;
-use crate::words::Token;
 use charts::Action;
 use charts::Question;
 use charts::User;
 use charts::Word;
 use faults::Fault;
+use words::Cursor;
+use words::Step;
+use words::Token;
 
 const BYTE: u32 = 255;
 

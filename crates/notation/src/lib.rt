@@ -1,7 +1,5 @@
-// Runs, settings and questions in plain words: what each line says that people write, and what of it is to blame where it is wrong.
-mod causes;
+// Runs, settings and questions in plain words: what each line says that people write.
 mod grammar;
-mod words;
 
 ghost use mathlib.Core.Path.{_≡_};
 ghost use Prim.Native.Nat.{_≤_};
@@ -9,15 +7,12 @@ ghost use lib.ListN.{length};
 ghost use Rattle.notation.specs.Grammar.{lineOf};
 ghost use Rattle.notation.specs.Reading.{isStopped, counted, nodesStage};
 ghost use Rattle.notation.specs.Meaning.{markSize};
-ghost use Rattle.notation.specs.Blame.{blameOf};
-use causes::Mark;
 use charts::Action;
 use charts::Question;
 use charts::User;
-use faults::Cause;
 use faults::Fault;
 
-pub(crate) const WRONG_SIZE: u8 = 1;
+const WRONG_SIZE: u8 = 1;
 
 const LAST_LINE: u64 = 18446744073709551615;
 
@@ -44,13 +39,6 @@ pub enum Line {
 pub enum Stage {
     Going,
     Stopped(Fault),
-}
-
-// Why a line has a fault, and the part of it that is to blame: its bytes from a place up to another.
-pub struct Blamed {
-    pub cause: Cause,
-    pub from: usize,
-    pub to: usize,
 }
 
 // What a line of a text says, without its newline.
@@ -110,16 +98,4 @@ pub fn nodes_stage(n: u8, m: u8) -> Stage
         return Stage::Stopped(Fault::Refused(WRONG_SIZE));
     }
     Stage::Going
-}
-
-// What is to blame for the fault of a line of a text. n is the number of nodes.
-pub fn blame(text: Text, n: u8, line: &[u8], fault: Fault) -> Blamed
-    ensures { λ r. ⌜ r ≡ blameOf text n (now (line .entry)) fault ⌝ }
-    ensures { λ r. ⌜ (r .from ≤ r .to) × (r .to ≤ length (now (line .entry))) ⌝ }
-{
-    if 255 < line.len() {
-        return causes::nowhere(Cause::Plain);
-    }
-    let end = causes::first_in(Mark::Comment, line);
-    causes::blame_in(text, n, &line[..end], fault)
 }

@@ -6,7 +6,7 @@ use Rattle.charts.specs.State.{upd}
 use Rattle.charts.specs.declared.User.{User}
 use Rattle.faults.specs.declared.Fault.the-variants as F
 use Rattle.transcript.specs.Text.{ascii}
-use Rattle.notation.specs.Words.{nameOf, digitOf, digitsOf, tokenOf, tokensOf}
+use Rattle.words.specs.Words.{nameOf, digitOf, digitsOf, tokenOf, tokensOf}
 use Rattle.notation.specs.Grammar.{numberIn, addressIn, optionIn, lastOf, nodesOf, actionsOf, userOf, restOf, namedOf, saidBy, lineOf}
 use Rattle.notation.specs.Reading.{nodesStage}
 use Rattle.notation.specs.Meaning.{markSize}

@@ -101,7 +101,7 @@ pub fn next_line(t: Lines, buf: &mut [u8], line: &mut [u8]) -> Lines
 fn put_cause(sort: Text, n: u8, number: u64, fault: Fault, line: &[u8], text: &mut [u8])
     requires { ⌜ length (now text) ≡ 512 ⌝ }
 {
-    let b = notation::blame(sort, n, line, fault);
+    let b = causes::blame(sort, n, line, fault);
     let cause = b.cause;
     let from = b.from;
     let to = b.to;

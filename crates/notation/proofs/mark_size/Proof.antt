@@ -1,10 +1,16 @@
 use Rattle.notation.specs.Meaning.{markSize}
-use Rattle.notation.proofs.Marks.{none-of}
-use Rattle.notation.proofs.WordLaws.{past-end}
+use mathlib.Core.Path.{_≡_, refl}
+use mathlib.Core.Bool.{Bool, true, false, _&&_}
+use Rattle.words.proofs.WordLaws.{past-end}
 use borrow.Author.Tests.{eq-eqb, ne-eqb}
 use borrow.Author.Needs.{needs}
 use Rattle.notation.proofs.mark_size.Statement.{statement}
 use Rattle.notation.proofs.mark_size.Tie as tie
+
+none-of : (p q : Bool) → (p && (q && false)) ≡ false
+none-of true true = refl
+none-of true false = refl
+none-of false q = refl
 
 returns : tie.Need-returns
 unfolding markSize

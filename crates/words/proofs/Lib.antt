@@ -1,0 +1,3 @@
+pub mod WordLaws
+pub mod Spaced
+pub mod Figures
