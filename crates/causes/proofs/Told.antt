@@ -11,7 +11,8 @@ use Rattle.notation.specs.declared.Text.{Text}
 use Rattle.notation.specs.declared.Text.the-variants.{Run, Settings, Question}
 use Rattle.causes.specs.declared.Blamed.{Blamed}
 use Rattle.words.specs.Words.{nameOf, digitOf, digitsOf, tokenOf, tokensOf}
-use Rattle.notation.specs.Grammar.{numberIn, addressIn, addressOrNone, optionIn, lastOf, repeatOf, endingOf, requestOf, nodeOf, respondOf, changeOf, actionOf, nodesOf, actionsOf, userOf, reportIn, depthIn, findOf, restOf, namedOf, saidBy, lineOf}
+use Rattle.fields.specs.Fields.{numberIn, addressIn, addressOrNone, optionIn, reportIn, depthIn}
+use Rattle.notation.specs.Grammar.{lastOf, repeatOf, endingOf, requestOf, nodeOf, respondOf, changeOf, actionOf, nodesOf, actionsOf, userOf, findOf, restOf, namedOf, saidBy, lineOf}
 use Rattle.causes.specs.Blame.{isWrong, endsWith, isAt, firstIn, wordIn, statementIn, refusalOf, namedAt, placeInLine, placeAt, blameIn, blameOf}
 
 -- the line that is said of line `number` of a text for n nodes

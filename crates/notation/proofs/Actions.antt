@@ -22,7 +22,8 @@ use Rattle.words.specs.declared.Token.the-variants.{Word, Number}
 use Rattle.notation.specs.declared.Text.the-variants.{Run}
 use Rattle.notation.specs.declared.Line.the-variants.{Acts}
 use Rattle.words.specs.Words.{tokenOf, nameOf, digitOf}
-use Rattle.notation.specs.Grammar.{got, recordOf, optionIn, saidIn, numberIn, addressIn, addressOrNone, endingOf, requestOf, nodeOf, respondOf, changeOf, actionOf, restOf, namedOf, saidBy, lineOf}
+use Rattle.fields.specs.Fields.{got, optionIn, saidIn, numberIn, addressIn, addressOrNone}
+use Rattle.notation.specs.Grammar.{recordOf, endingOf, requestOf, nodeOf, respondOf, changeOf, actionOf, restOf, namedOf, saidBy, lineOf}
 use Rattle.words.specs.Lines.{spaced}
 use Rattle.transcript.specs.Printed.{addressWord, labelWords, holdWord, changeWord, wordsFor}
 use Rattle.words.proofs.Spaced.{Good, good-by}

@@ -20,7 +20,8 @@ use Rattle.notation.specs.declared.Line.the-variants as L
 use Rattle.words.specs.declared.Token.{Token}
 use Rattle.words.specs.declared.Token.the-variants.{Word, Number, Large}
 use Rattle.words.specs.Words as W
-use Rattle.notation.specs.Grammar.{Part, got, bad, after, isWord, byte, long, numeral, numberIn, addressAt, addressIn, addressOrNone, optionIn, saidIn, toIn, holdIn, lastOf, timesOf, repeatOf, endingOf, recordOf, requestOf, nodeOf, respondOf, changeOf, actionOf, nodesThen, nodesOf, short, actionsThen, actionsOf, userOf, isReport, reportIn, depthIn, findOf, runOf, restOf, namedOf, saidBy, lineOf}
+use Rattle.fields.specs.Fields.{Part, got, bad, isWord, byte, long, numeral, numberIn, addressAt, addressIn, addressOrNone, optionIn, saidIn, toIn, holdIn, short, isReport, reportIn, depthIn}
+use Rattle.notation.specs.Grammar.{after, lastOf, timesOf, repeatOf, endingOf, recordOf, requestOf, nodeOf, respondOf, changeOf, actionOf, nodesThen, nodesOf, actionsThen, actionsOf, userOf, findOf, runOf, restOf, namedOf, saidBy, lineOf}
 
 abbrev pub Fitting : Line → Type 0
 Fitting Blank = Unit

@@ -1,15 +1,12 @@
 -- A line of a question: but for `find` it says what it says in a run, and the words of the reports are told apart. Assumes nothing.
 use mathlib.Core.Path.{_≡_, refl}
-use mathlib.Core.Bool.{true, false}
+use mathlib.Core.Bool.{false}
 use mathlib.Core.List.{List, [], _∷_, _++_}
-use Prim.Native.Nat.{ℕ, _≤_}
-use native.Mathlib.Omega.{arith}
-use borrow.Author.Tests.{ltb-true}
-use lib.Dec.{eqb, ltb}
+use Prim.Native.Nat.{ℕ}
+use lib.Dec.{eqb}
 use Rattle.charts.specs.Routes.{numbered}
 use Rattle.charts.specs.declared.Word as Report
 use Rattle.charts.specs.declared.Word.the-variants as R
-use Rattle.runfile.proofs.Loops.{and-left}
 use Rattle.transcript.specs.Text.{ascii}
 use Rattle.words.specs.declared.Token.{Token}
 use Rattle.words.specs.declared.Token.the-variants.{Word, Number, Large}
@@ -17,7 +14,8 @@ use Rattle.notation.specs.declared.Text.the-variants.{Run, Question}
 use Rattle.notation.specs.declared.Line.the-variants.{Finds}
 use Rattle.words.specs.Words as W
 use Rattle.words.specs.Words.{nameOf, digitOf, digitsOf, tokenOf, tokensOf, kindIn, kindOf}
-use Rattle.notation.specs.Grammar.{numberIn, lastOf, isReport, reportIn, wordNumbered, depthIn, findOf, restOf, namedOf, saidBy, lineOf}
+use Rattle.fields.specs.Fields.{numberIn, reportIn, depthIn}
+use Rattle.notation.specs.Grammar.{lastOf, wordNumbered, findOf, restOf, namedOf, saidBy, lineOf}
 
 said-as-run : (l : List Token) → eqb (kindIn l) W.find ≡ false → saidBy Question l ≡ saidBy Run l
 unfolding saidBy namedOf restOf
@@ -30,10 +28,6 @@ said-as-run (Large ∷ l) h = refl
 pub as-in-run : (line : List ℕ) → eqb (kindOf line) W.find ≡ false → lineOf Question line ≡ lineOf Run line
 unfolding lineOf
 as-in-run line h = rw (said-as-run (tokensOf line) h)
-
--- the words of the reports are the names after `within`
-pub after-within : (k : ℕ) → isReport k ≡ true → W.within ≤ k
-after-within k e = let low = ltb-true W.within k (and-left (ltb W.within k) _ e) in omega arith
 
 -- a report's number is its own
 pub word-back : (w : Report.Word) → wordNumbered (numbered w) ≡ w

@@ -17,7 +17,8 @@ use Rattle.words.specs.declared.Token.the-variants.{Word, Number}
 use Rattle.notation.specs.declared.Text.the-variants.{Run}
 use Rattle.notation.specs.declared.Line.the-variants.{Nodes}
 use Rattle.words.specs.Words.{tokenOf, nameOf, digitOf}
-use Rattle.notation.specs.Grammar.{saidBy, namedOf, nodesOf, numberIn, lastOf, lineOf}
+use Rattle.fields.specs.Fields.{numberIn}
+use Rattle.notation.specs.Grammar.{saidBy, namedOf, nodesOf, lastOf, lineOf}
 use Rattle.words.specs.Lines.{spaced}
 use Rattle.transcript.specs.Printed.{addressWord, wordsFor, actionLine}
 use Rattle.notation.specs.Reading.{nodesStage}

@@ -5,7 +5,8 @@ use Prim.Native.Nat.{ℕ}
 use Rattle.words.specs.declared.Token.{Token}
 use Rattle.notation.specs.declared.Line.the-variants as L
 use Rattle.words.specs.Words as W
-use Rattle.notation.specs.Grammar.{got, byte, numberIn, saidIn, toIn, holdIn, lastOf, userWith, userOf}
+use Rattle.fields.specs.Fields.{got, byte, numberIn, saidIn, toIn, holdIn}
+use Rattle.notation.specs.Grammar.{lastOf, userWith, userOf}
 
 pub six-fields : (l l1 l2 l3 l4 l5 l6 : List Token) (node address spell fillers hold period : ℕ)
     → numberIn byte l ≡ got node l1 → toIn l1 ≡ got address l2 → saidIn W.spell l2 ≡ got spell l3 → saidIn W.fillers l3 ≡ got fillers l4 → holdIn l4 ≡ got hold l5

@@ -1,105 +1,30 @@
 -- One line of a run, of settings or of a question in plain words: its productions, over the words of the line.
-use mathlib.Core.Bool.{Bool, false, cond, not, _&&_}
+use mathlib.Core.Bool.{cond, not}
 use mathlib.Core.List.{List, [], _∷_}
-use Prim.Native.Nat.{ℕ, _-_, _≤_}
-use lib.Dec.{eqb, ltb, leb}
+use Prim.Native.Nat.{ℕ}
+use lib.Dec.{eqb, ltb}
 use lib.ListN.{length}
 use Rattle.charts.specs.declared.Action.{Action}
 use Rattle.charts.specs.declared.User.{User}
 use Rattle.charts.specs.declared.Word as Report
 use Rattle.charts.specs.declared.Word.the-variants as R
 use Rattle.charts.specs.Records.{isKind}
-use Rattle.charts.specs.Signals.{everybody}
 use Rattle.charts.specs.Words as N
+use Rattle.faults.specs.declared.Fault.the-variants.{UnknownWord, ExtraField, NoRepeat, LongLine}
 use Rattle.words.specs.declared.Token.{Token}
 use Rattle.words.specs.declared.Token.the-variants.{Word, Number, Large}
-use Rattle.notation.specs.declared.grammar.Field.{Field}
-use Rattle.notation.specs.declared.grammar.Field.the-variants as F
-use Rattle.faults.specs.declared.Fault.{Fault}
-use Rattle.faults.specs.declared.Fault.the-variants.{UnknownWord, NotNumber, TooLarge, MissingField, ExtraField, NoRepeat, LongLine}
+use Rattle.words.specs.Words as W
+use Rattle.fields.specs.Fields.{Part, got, bad, isWord, byte, short, long, numberIn, addressIn, addressOrNone, saidIn, toIn, holdIn, reportIn, depthIn}
 use Rattle.notation.specs.declared.Text.{Text}
 use Rattle.notation.specs.declared.Text.the-variants.{Run, Settings, Question}
 use Rattle.notation.specs.declared.Line.{Line}
 use Rattle.notation.specs.declared.Line.the-variants.{Blank, Nodes, Acts, Actions, Finds, Wrong}
 use Rattle.notation.specs.declared.Line.the-variants as L
-use Rattle.words.specs.Words as W
-use Rattle.words.specs.Cursors.{tokensLeft}
 
--- what a production for a field gives: a value and the words after it, or what is wrong
-pub data Part : Type 0 where
-  got : ℕ → List Token → Part
-  bad : Fault → Part
-
+-- a field, and what its value and the words after it say; or what is wrong with it
 abbrev pub after : Part → (ℕ → List Token → Line) → Line
 after (got x l) next = next x l
 after (bad f) next = Wrong f
-
--- the code's answer for a field in a line
-abbrev pub seen : List ℕ → Field → Part
-seen line (F.Is x c) = got x (tokensLeft line (c .at))
-seen line (F.Bad f) = bad f
-
-abbrev pub faultOf : Field → Fault
-faultOf (F.Is x c) = MissingField
-faultOf (F.Bad f) = f
-
-abbrev pub fieldFits : ℕ → Field → Type 0
-fieldFits most (F.Is x c) = x ≤ most
-fieldFits most (F.Bad f) = Unit
-
-abbrev pub isWord : ℕ → Token → Bool
-isWord k (Word j) = eqb j k
-isWord k (Number x) = false
-isWord k Large = false
-
--- a number of at most `most`: "a number too large", "a missing […] field"
-abbrev pub byte : ℕ
-byte = 255
-
-abbrev pub short : ℕ
-short = 65535
-
-abbrev pub long : ℕ
-long = 4294967295
-
-abbrev pub numeral : ℕ → Token → List Token → Part
-numeral most (Word k) l = bad NotNumber
-numeral most (Number x) l = cond (leb x most) (got x l) (bad TooLarge)
-numeral most Large l = bad TooLarge
-
-unfoldable pub numberIn : ℕ → List Token → Part
-numberIn most [] = bad MissingField
-numberIn most (t ∷ l) = numeral most t l
-
--- "address or `all`": "Address 63 means all nodes"
-abbrev pub addressAt : Token → List Token → Part
-addressAt t l = cond (isWord W.all t) (got everybody l) (numeral byte t l)
-
-unfoldable pub addressIn : List Token → Part
-addressIn [] = bad MissingField
-addressIn (t ∷ l) = addressAt t l
-
--- "`change 2` / `change`": without an address it is 0
-unfoldable pub addressOrNone : List Token → Part
-addressOrNone [] = got 0 []
-addressOrNone (t ∷ l) = cond (isWord W.times t) (got 0 (t ∷ l)) (addressAt t l)
-
--- an optional word and the value after it; without the word the value is 0
-unfoldable pub optionIn : ℕ → (List Token → Part) → List Token → Part
-optionIn k value [] = got 0 []
-optionIn k value (t ∷ l) = cond (isWord k t) (value l) (got 0 (t ∷ l))
-
--- "[ "label" LABEL ]", "[ "spell" SPELL ] [ "fillers" FILLERS ]", "[ "lose" PERIOD ]": "What is not said is 0"
-abbrev pub saidIn : ℕ → List Token → Part
-saidIn k l = optionIn k (numberIn byte) l
-
--- "[ "to" ADDRESS ]"
-abbrev pub toIn : List Token → Part
-toIn l = optionIn W.to addressIn l
-
--- "[ "hold" ]": 1, or 0 for release
-abbrev pub holdIn : List Token → Part
-holdIn l = optionIn W.hold (got 1) l
 
 -- the end of a line
 unfoldable pub lastOf : Line → List Token → Line
@@ -193,19 +118,6 @@ userOf l =
     after (saidIn W.lose l5) λ period l6.
     lastOf (L.User node (userWith address spell fillers hold period)) l6
 
--- "WORD = "won" | "lost" | […] | "drop"": the names after `within`. The value is the report's number
-abbrev pub isReport : ℕ → Bool
-isReport k = ltb W.within k && leb k W.broad
-
-abbrev pub reportAt : Token → List Token → Part
-reportAt (Word k) l = cond (isReport k) (got (k - W.within) l) (bad UnknownWord)
-reportAt (Number x) l = bad UnknownWord
-reportAt Large l = bad UnknownWord
-
-unfoldable pub reportIn : List Token → Part
-reportIn [] = bad MissingField
-reportIn (t ∷ l) = reportAt t l
-
 -- the report with a number
 unfoldable pub wordNumbered : ℕ → Report.Word
 wordNumbered x =
@@ -218,11 +130,6 @@ wordNumbered x =
     (cond (eqb x N.good) R.Good
     (cond (eqb x N.dcrc) R.Dcrc
     R.Broad)))))))
-
--- ""within" DEPTH": "something other than `within` after the node" is an unknown word
-unfoldable pub depthIn : List Token → Part
-depthIn [] = bad MissingField
-depthIn (t ∷ l) = cond (isWord W.within t) (numberIn byte l) (bad UnknownWord)
 
 -- "find = "find" WORD NODE "within" DEPTH"
 unfoldable pub findOf : List Token → Line

@@ -1,12 +1,11 @@
 // The productions of a line. Each reads on from a cursor.
 ghost use mathlib.Core.Path.{_≡_};
 ghost use Rattle.charts.specs.Records.{isKind};
-ghost use Rattle.notation.specs.declared.Text.the-variants as T;
 ghost use Rattle.words.specs.Words.{tokensOf};
 ghost use Rattle.words.specs.Cursors.{tokensLeft};
-ghost use Rattle.notation.specs.Grammar.{seen, faultOf, fieldFits, isWord, numeral, numberIn, addressAt, addressIn, addressOrNone, saidIn, toIn, holdIn};
+ghost use Rattle.notation.specs.declared.Text.the-variants as T;
 ghost use Rattle.notation.specs.Grammar.{lastOf, repeatOf, endingOf, recordOf, requestOf, nodeOf, respondOf, changeOf, actionOf, nodesOf};
-ghost use Rattle.notation.specs.Grammar.{actionsOf, userWith, userOf, isReport, reportAt, reportIn, wordNumbered, depthIn, findOf, runOf, restOf, namedOf, saidBy};
+ghost use Rattle.notation.specs.Grammar.{actionsOf, userWith, userOf, wordNumbered, findOf, runOf, restOf, namedOf, saidBy};
 use crate::Line;
 use crate::Text;
 use charts::Action;
@@ -14,6 +13,7 @@ use charts::Question;
 use charts::User;
 use charts::Word;
 use faults::Fault;
+use fields::Field;
 use words::Cursor;
 use words::Step;
 use words::Token;
@@ -23,143 +23,6 @@ const BYTE: u32 = 255;
 const SHORT: u32 = 65535;
 
 const LONG: u32 = 4294967295;
-
-const EVERYBODY: u32 = 63;
-
-// A field of a line: its value and the place after it, or what is wrong.
-pub(crate) enum Field {
-    Is(u32, Cursor),
-    Bad(Fault),
-}
-
-fn is_word(t: Token, k: u8) -> bool
-    ensures { λ r. ⌜ r ≡ isWord k t ⌝ }
-{
-    match t {
-        Token::Word(j) => j == k,
-        Token::Number(_) => false,
-        Token::Large => false,
-    }
-}
-
-// A word as a number of at most `most`.
-fn as_number(line: &[u8], most: u32, t: Token, c: Cursor) -> Field
-    ensures { λ r. ⌜ seen (now (line .entry)) r ≡ numeral most t (tokensLeft (now (line .entry)) (c .at)) ⌝ }
-    ensures { λ r. ⌜ fieldFits most r ⌝ }
-{
-    match t {
-        Token::Word(_) => Field::Bad(Fault::NotNumber),
-        Token::Number(x) => {
-            if x <= most {
-                Field::Is(x, c)
-            } else {
-                Field::Bad(Fault::TooLarge)
-            }
-        }
-        Token::Large => Field::Bad(Fault::TooLarge),
-    }
-}
-
-fn number(line: &[u8], most: u32, c: Cursor) -> Field
-    ensures { λ r. ⌜ seen (now (line .entry)) r ≡ numberIn most (tokensLeft (now (line .entry)) (c .at)) ⌝ }
-    ensures { λ r. ⌜ fieldFits most r ⌝ }
-{
-    let step = words::next_word(line, c);
-    match step {
-        Step::End => Field::Bad(Fault::MissingField),
-        Step::Read(t, next) => as_number(line, most, t, next),
-    }
-}
-
-// A word as an address.
-fn as_address(line: &[u8], t: Token, c: Cursor) -> Field
-    ensures { λ r. ⌜ seen (now (line .entry)) r ≡ addressAt t (tokensLeft (now (line .entry)) (c .at)) ⌝ }
-    ensures { λ r. ⌜ fieldFits 255 r ⌝ }
-{
-    if is_word(t, words::ALL) {
-        return Field::Is(EVERYBODY, c);
-    }
-    as_number(line, BYTE, t, c)
-}
-
-fn address(line: &[u8], c: Cursor) -> Field
-    ensures { λ r. ⌜ seen (now (line .entry)) r ≡ addressIn (tokensLeft (now (line .entry)) (c .at)) ⌝ }
-    ensures { λ r. ⌜ fieldFits 255 r ⌝ }
-{
-    let step = words::next_word(line, c);
-    match step {
-        Step::End => Field::Bad(Fault::MissingField),
-        Step::Read(t, next) => as_address(line, t, next),
-    }
-}
-
-// The address of a `change`, 0 where it has none.
-fn address_or_none(line: &[u8], c: Cursor) -> Field
-    ensures { λ r. ⌜ seen (now (line .entry)) r ≡ addressOrNone (tokensLeft (now (line .entry)) (c .at)) ⌝ }
-    ensures { λ r. ⌜ fieldFits 255 r ⌝ }
-{
-    let step = words::next_word(line, c);
-    match step {
-        Step::End => Field::Is(0, c),
-        Step::Read(t, next) => {
-            if is_word(t, words::TIMES) {
-                return Field::Is(0, c);
-            }
-            as_address(line, t, next)
-        }
-    }
-}
-
-// `hold` is 1, and 0 where it is not said.
-fn hold(line: &[u8], c: Cursor) -> Field
-    ensures { λ r. ⌜ seen (now (line .entry)) r ≡ holdIn (tokensLeft (now (line .entry)) (c .at)) ⌝ }
-    ensures { λ r. ⌜ fieldFits 1 r ⌝ }
-{
-    let step = words::next_word(line, c);
-    match step {
-        Step::End => Field::Is(0, c),
-        Step::Read(t, next) => {
-            if is_word(t, words::HOLD) {
-                return Field::Is(1, next);
-            }
-            Field::Is(0, c)
-        }
-    }
-}
-
-// The number after a word that may be said; 0 where it is not.
-fn said(line: &[u8], k: u8, c: Cursor) -> Field
-    ensures { λ r. ⌜ seen (now (line .entry)) r ≡ saidIn k (tokensLeft (now (line .entry)) (c .at)) ⌝ }
-    ensures { λ r. ⌜ fieldFits 255 r ⌝ }
-{
-    let step = words::next_word(line, c);
-    match step {
-        Step::End => Field::Is(0, c),
-        Step::Read(t, next) => {
-            if is_word(t, k) {
-                return number(line, BYTE, next);
-            }
-            Field::Is(0, c)
-        }
-    }
-}
-
-// The address after `to`; 0 where it is not said.
-fn to(line: &[u8], c: Cursor) -> Field
-    ensures { λ r. ⌜ seen (now (line .entry)) r ≡ toIn (tokensLeft (now (line .entry)) (c .at)) ⌝ }
-    ensures { λ r. ⌜ fieldFits 255 r ⌝ }
-{
-    let step = words::next_word(line, c);
-    match step {
-        Step::End => Field::Is(0, c),
-        Step::Read(t, next) => {
-            if is_word(t, words::TO) {
-                return address(line, next);
-            }
-            Field::Is(0, c)
-        }
-    }
-}
 
 // The end of a line that says r.
 fn last(line: &[u8], r: Line, c: Cursor) -> Line
@@ -176,7 +39,7 @@ fn last(line: &[u8], r: Line, c: Cursor) -> Line
 fn repeat(line: &[u8], a: Action, c: Cursor) -> Line
     ensures { λ r. ⌜ r ≡ repeatOf a (tokensLeft (now (line .entry)) (c .at)) ⌝ }
 {
-    let f = number(line, LONG, c);
+    let f = fields::number(line, LONG, c);
     match f {
         Field::Bad(fault) => Line::Wrong(fault),
         Field::Is(k, next) => {
@@ -196,7 +59,7 @@ fn ending(line: &[u8], a: Action, c: Cursor) -> Line
     match step {
         Step::End => Line::Acts(a, 1),
         Step::Read(t, next) => {
-            if is_word(t, words::TIMES) {
+            if fields::is_word(t, words::TIMES) {
                 return repeat(line, a, next);
             }
             Line::Wrong(Fault::ExtraField)
@@ -230,38 +93,28 @@ fn action(
     }
 }
 
-// What is wrong with a field; asked of those only that are.
-fn fault_of(f: Field) -> Fault
-    ensures { λ r. ⌜ r ≡ faultOf f ⌝ }
-{
-    match f {
-        Field::Bad(fault) => fault,
-        Field::Is(_, _) => Fault::MissingField,
-    }
-}
-
 fn request(line: &[u8], c: Cursor) -> Line
     ensures { λ r. ⌜ r ≡ requestOf (tokensLeft (now (line .entry)) (c .at)) ⌝ }
 {
-    let first = number(line, BYTE, c);
+    let first = fields::number(line, BYTE, c);
     let Field::Is(node, after_node) = first else {
-        return Line::Wrong(fault_of(first));
+        return Line::Wrong(fields::fault_of(first));
     };
-    let second = address(line, after_node);
+    let second = fields::address(line, after_node);
     let Field::Is(to, after_address) = second else {
-        return Line::Wrong(fault_of(second));
+        return Line::Wrong(fields::fault_of(second));
     };
-    let third = number(line, LONG, after_address);
+    let third = fields::number(line, LONG, after_address);
     let Field::Is(header, after_header) = third else {
-        return Line::Wrong(fault_of(third));
+        return Line::Wrong(fields::fault_of(third));
     };
-    let fourth = number(line, LONG, after_header);
+    let fourth = fields::number(line, LONG, after_header);
     let Field::Is(datum, after_datum) = fourth else {
-        return Line::Wrong(fault_of(fourth));
+        return Line::Wrong(fields::fault_of(fourth));
     };
-    let fifth = said(line, words::LABEL, after_datum);
+    let fifth = fields::said(line, words::LABEL, after_datum);
     let Field::Is(labelled, after_label) = fifth else {
-        return Line::Wrong(fault_of(fifth));
+        return Line::Wrong(fields::fault_of(fifth));
     };
     ending(
         line,
@@ -274,9 +127,9 @@ fn request(line: &[u8], c: Cursor) -> Line
 fn of_node(line: &[u8], kind: u8, c: Cursor) -> Line
     ensures { λ r. ⌜ r ≡ nodeOf kind (tokensLeft (now (line .entry)) (c .at)) ⌝ }
 {
-    let f = number(line, BYTE, c);
+    let f = fields::number(line, BYTE, c);
     let Field::Is(node, next) = f else {
-        return Line::Wrong(fault_of(f));
+        return Line::Wrong(fields::fault_of(f));
     };
     ending(line, action(kind, node as u8, 0, 0, 0, 0, 0, 0), next)
 }
@@ -284,17 +137,17 @@ fn of_node(line: &[u8], kind: u8, c: Cursor) -> Line
 fn respond(line: &[u8], c: Cursor) -> Line
     ensures { λ r. ⌜ r ≡ respondOf (tokensLeft (now (line .entry)) (c .at)) ⌝ }
 {
-    let first = number(line, BYTE, c);
+    let first = fields::number(line, BYTE, c);
     let Field::Is(node, after_node) = first else {
-        return Line::Wrong(fault_of(first));
+        return Line::Wrong(fields::fault_of(first));
     };
-    let second = number(line, BYTE, after_node);
+    let second = fields::number(line, BYTE, after_node);
     let Field::Is(ack, after_ack) = second else {
-        return Line::Wrong(fault_of(second));
+        return Line::Wrong(fields::fault_of(second));
     };
-    let third = hold(line, after_ack);
+    let third = fields::hold(line, after_ack);
     let Field::Is(held, after_hold) = third else {
-        return Line::Wrong(fault_of(third));
+        return Line::Wrong(fields::fault_of(third));
     };
     ending(
         line,
@@ -306,9 +159,9 @@ fn respond(line: &[u8], c: Cursor) -> Line
 fn change(line: &[u8], c: Cursor) -> Line
     ensures { λ r. ⌜ r ≡ changeOf (tokensLeft (now (line .entry)) (c .at)) ⌝ }
 {
-    let f = address_or_none(line, c);
+    let f = fields::address_or_none(line, c);
     let Field::Is(to, next) = f else {
-        return Line::Wrong(fault_of(f));
+        return Line::Wrong(fields::fault_of(f));
     };
     ending(line, action(7, 0, to as u8, 0, 0, 0, 0, 0), next)
 }
@@ -332,9 +185,9 @@ fn of_kind(line: &[u8], kind: u8, c: Cursor) -> Line
 fn nodes(line: &[u8], c: Cursor) -> Line
     ensures { λ r. ⌜ r ≡ nodesOf (tokensLeft (now (line .entry)) (c .at)) ⌝ }
 {
-    let f = number(line, BYTE, c);
+    let f = fields::number(line, BYTE, c);
     let Field::Is(n, next) = f else {
-        return Line::Wrong(fault_of(f));
+        return Line::Wrong(fields::fault_of(f));
     };
     last(line, Line::Nodes(n as u8), next)
 }
@@ -352,9 +205,9 @@ fn is_kind(k: u8) -> bool
 fn actions(line: &[u8], c: Cursor) -> Line
     ensures { λ r. ⌜ r ≡ actionsOf (tokensLeft (now (line .entry)) (c .at)) ⌝ }
 {
-    let f = number(line, SHORT, c);
+    let f = fields::number(line, SHORT, c);
     let Field::Is(n, next) = f else {
-        return Line::Wrong(fault_of(f));
+        return Line::Wrong(fields::fault_of(f));
     };
     last(line, Line::Actions(n as u16), next)
 }
@@ -374,29 +227,29 @@ fn user_with(address: u8, spell: u8, fillers: u8, hold: u8, period: u8) -> User
 fn user(line: &[u8], c: Cursor) -> Line
     ensures { λ r. ⌜ r ≡ userOf (tokensLeft (now (line .entry)) (c .at)) ⌝ }
 {
-    let first = number(line, BYTE, c);
+    let first = fields::number(line, BYTE, c);
     let Field::Is(node, after_node) = first else {
-        return Line::Wrong(fault_of(first));
+        return Line::Wrong(fields::fault_of(first));
     };
-    let second = to(line, after_node);
+    let second = fields::to(line, after_node);
     let Field::Is(address, after_address) = second else {
-        return Line::Wrong(fault_of(second));
+        return Line::Wrong(fields::fault_of(second));
     };
-    let third = said(line, words::SPELL, after_address);
+    let third = fields::said(line, words::SPELL, after_address);
     let Field::Is(spell, after_spell) = third else {
-        return Line::Wrong(fault_of(third));
+        return Line::Wrong(fields::fault_of(third));
     };
-    let fourth = said(line, words::FILLERS, after_spell);
+    let fourth = fields::said(line, words::FILLERS, after_spell);
     let Field::Is(fillers, after_fillers) = fourth else {
-        return Line::Wrong(fault_of(fourth));
+        return Line::Wrong(fields::fault_of(fourth));
     };
-    let fifth = hold(line, after_fillers);
+    let fifth = fields::hold(line, after_fillers);
     let Field::Is(held, after_hold) = fifth else {
-        return Line::Wrong(fault_of(fifth));
+        return Line::Wrong(fields::fault_of(fifth));
     };
-    let sixth = said(line, words::LOSE, after_hold);
+    let sixth = fields::said(line, words::LOSE, after_hold);
     let Field::Is(period, after_period) = sixth else {
-        return Line::Wrong(fault_of(sixth));
+        return Line::Wrong(fields::fault_of(sixth));
     };
     let u = user_with(
         address as u8,
@@ -406,41 +259,6 @@ fn user(line: &[u8], c: Cursor) -> Line
         period as u8,
     );
     last(line, Line::User(node as u8, u), after_period)
-}
-
-fn is_report(k: u8) -> bool
-    ensures { λ r. ⌜ r ≡ isReport k ⌝ }
-{
-    if words::WITHIN < k {
-        return k <= words::BROAD;
-    }
-    false
-}
-
-// A word as the number of a report.
-fn as_report(line: &[u8], t: Token, c: Cursor) -> Field
-    ensures { λ r. ⌜ seen (now (line .entry)) r ≡ reportAt t (tokensLeft (now (line .entry)) (c .at)) ⌝ }
-{
-    match t {
-        Token::Word(k) => {
-            if is_report(k) {
-                return Field::Is((k - words::WITHIN) as u32, c);
-            }
-            Field::Bad(Fault::UnknownWord)
-        }
-        Token::Number(_) => Field::Bad(Fault::UnknownWord),
-        Token::Large => Field::Bad(Fault::UnknownWord),
-    }
-}
-
-fn report(line: &[u8], c: Cursor) -> Field
-    ensures { λ r. ⌜ seen (now (line .entry)) r ≡ reportIn (tokensLeft (now (line .entry)) (c .at)) ⌝ }
-{
-    let step = words::next_word(line, c);
-    match step {
-        Step::End => Field::Bad(Fault::MissingField),
-        Step::Read(t, next) => as_report(line, t, next),
-    }
 }
 
 // The report with a number.
@@ -460,37 +278,20 @@ fn word_numbered(x: u32) -> Word
     }
 }
 
-// The depth after `within`.
-fn depth(line: &[u8], c: Cursor) -> Field
-    ensures { λ r. ⌜ seen (now (line .entry)) r ≡ depthIn (tokensLeft (now (line .entry)) (c .at)) ⌝ }
-    ensures { λ r. ⌜ fieldFits 255 r ⌝ }
-{
-    let step = words::next_word(line, c);
-    match step {
-        Step::End => Field::Bad(Fault::MissingField),
-        Step::Read(t, next) => {
-            if is_word(t, words::WITHIN) {
-                return number(line, BYTE, next);
-            }
-            Field::Bad(Fault::UnknownWord)
-        }
-    }
-}
-
 fn find(line: &[u8], c: Cursor) -> Line
     ensures { λ r. ⌜ r ≡ findOf (tokensLeft (now (line .entry)) (c .at)) ⌝ }
 {
-    let first = report(line, c);
+    let first = fields::report(line, c);
     let Field::Is(said, after_report) = first else {
-        return Line::Wrong(fault_of(first));
+        return Line::Wrong(fields::fault_of(first));
     };
-    let second = number(line, BYTE, after_report);
+    let second = fields::number(line, BYTE, after_report);
     let Field::Is(node, after_node) = second else {
-        return Line::Wrong(fault_of(second));
+        return Line::Wrong(fields::fault_of(second));
     };
-    let third = depth(line, after_node);
+    let third = fields::depth(line, after_node);
     let Field::Is(most, after_depth) = third else {
-        return Line::Wrong(fault_of(third));
+        return Line::Wrong(fields::fault_of(third));
     };
     let q = Question {
         word: word_numbered(said),

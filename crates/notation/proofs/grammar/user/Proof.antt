@@ -1,7 +1,8 @@
 use mathlib.Core.Path.{sym, ap, _∙_}
 use Rattle.notation.proofs.Users.{six-fields}
 use native.Mathlib.Omega.{arith}
-use Rattle.notation.specs.Grammar.{seen, userOf}
+use Rattle.fields.specs.Fields.{seen}
+use Rattle.notation.specs.Grammar.{userOf}
 use borrow.Author.Needs.{needs}
 use Rattle.notation.proofs.grammar.user.Statement.{statement}
 use Rattle.notation.proofs.grammar.user.Tie as tie
