@@ -8,7 +8,12 @@ use words::Cursor;
 use words::Step;
 use words::Token;
 
-const BYTE: u32 = 255;
+// The largest numbers of fields of 8, 16 and 32 bits.
+pub const BYTE: u32 = 255;
+
+pub const SHORT: u32 = 65535;
+
+pub const LONG: u32 = 4294967295;
 
 const EVERYBODY: u32 = 63;
 

@@ -18,12 +18,6 @@ use words::Cursor;
 use words::Step;
 use words::Token;
 
-const BYTE: u32 = 255;
-
-const SHORT: u32 = 65535;
-
-const LONG: u32 = 4294967295;
-
 // The end of a line that says r.
 fn last(line: &[u8], r: Line, c: Cursor) -> Line
     ensures { λ s. ⌜ s ≡ lastOf r (tokensLeft (now (line .entry)) (c .at)) ⌝ }
@@ -39,7 +33,7 @@ fn last(line: &[u8], r: Line, c: Cursor) -> Line
 fn repeat(line: &[u8], a: Action, c: Cursor) -> Line
     ensures { λ r. ⌜ r ≡ repeatOf a (tokensLeft (now (line .entry)) (c .at)) ⌝ }
 {
-    let f = fields::number(line, LONG, c);
+    let f = fields::number(line, fields::LONG, c);
     match f {
         Field::Bad(fault) => Line::Wrong(fault),
         Field::Is(k, next) => {
@@ -96,7 +90,7 @@ fn action(
 fn request(line: &[u8], c: Cursor) -> Line
     ensures { λ r. ⌜ r ≡ requestOf (tokensLeft (now (line .entry)) (c .at)) ⌝ }
 {
-    let first = fields::number(line, BYTE, c);
+    let first = fields::number(line, fields::BYTE, c);
     let Field::Is(node, after_node) = first else {
         return Line::Wrong(fields::fault_of(first));
     };
@@ -104,11 +98,11 @@ fn request(line: &[u8], c: Cursor) -> Line
     let Field::Is(to, after_address) = second else {
         return Line::Wrong(fields::fault_of(second));
     };
-    let third = fields::number(line, LONG, after_address);
+    let third = fields::number(line, fields::LONG, after_address);
     let Field::Is(header, after_header) = third else {
         return Line::Wrong(fields::fault_of(third));
     };
-    let fourth = fields::number(line, LONG, after_header);
+    let fourth = fields::number(line, fields::LONG, after_header);
     let Field::Is(datum, after_datum) = fourth else {
         return Line::Wrong(fields::fault_of(fourth));
     };
@@ -127,7 +121,7 @@ fn request(line: &[u8], c: Cursor) -> Line
 fn of_node(line: &[u8], kind: u8, c: Cursor) -> Line
     ensures { λ r. ⌜ r ≡ nodeOf kind (tokensLeft (now (line .entry)) (c .at)) ⌝ }
 {
-    let f = fields::number(line, BYTE, c);
+    let f = fields::number(line, fields::BYTE, c);
     let Field::Is(node, next) = f else {
         return Line::Wrong(fields::fault_of(f));
     };
@@ -137,11 +131,11 @@ fn of_node(line: &[u8], kind: u8, c: Cursor) -> Line
 fn respond(line: &[u8], c: Cursor) -> Line
     ensures { λ r. ⌜ r ≡ respondOf (tokensLeft (now (line .entry)) (c .at)) ⌝ }
 {
-    let first = fields::number(line, BYTE, c);
+    let first = fields::number(line, fields::BYTE, c);
     let Field::Is(node, after_node) = first else {
         return Line::Wrong(fields::fault_of(first));
     };
-    let second = fields::number(line, BYTE, after_node);
+    let second = fields::number(line, fields::BYTE, after_node);
     let Field::Is(ack, after_ack) = second else {
         return Line::Wrong(fields::fault_of(second));
     };
@@ -185,7 +179,7 @@ fn of_kind(line: &[u8], kind: u8, c: Cursor) -> Line
 fn nodes(line: &[u8], c: Cursor) -> Line
     ensures { λ r. ⌜ r ≡ nodesOf (tokensLeft (now (line .entry)) (c .at)) ⌝ }
 {
-    let f = fields::number(line, BYTE, c);
+    let f = fields::number(line, fields::BYTE, c);
     let Field::Is(n, next) = f else {
         return Line::Wrong(fields::fault_of(f));
     };
@@ -205,7 +199,7 @@ fn is_kind(k: u8) -> bool
 fn actions(line: &[u8], c: Cursor) -> Line
     ensures { λ r. ⌜ r ≡ actionsOf (tokensLeft (now (line .entry)) (c .at)) ⌝ }
 {
-    let f = fields::number(line, SHORT, c);
+    let f = fields::number(line, fields::SHORT, c);
     let Field::Is(n, next) = f else {
         return Line::Wrong(fields::fault_of(f));
     };
@@ -227,7 +221,7 @@ fn user_with(address: u8, spell: u8, fillers: u8, hold: u8, period: u8) -> User
 fn user(line: &[u8], c: Cursor) -> Line
     ensures { λ r. ⌜ r ≡ userOf (tokensLeft (now (line .entry)) (c .at)) ⌝ }
 {
-    let first = fields::number(line, BYTE, c);
+    let first = fields::number(line, fields::BYTE, c);
     let Field::Is(node, after_node) = first else {
         return Line::Wrong(fields::fault_of(first));
     };
@@ -285,7 +279,7 @@ fn find(line: &[u8], c: Cursor) -> Line
     let Field::Is(said, after_report) = first else {
         return Line::Wrong(fields::fault_of(first));
     };
-    let second = fields::number(line, BYTE, after_report);
+    let second = fields::number(line, fields::BYTE, after_report);
     let Field::Is(node, after_node) = second else {
         return Line::Wrong(fields::fault_of(second));
     };

@@ -7,6 +7,7 @@ ghost use lib.ListN.{length, take, drop, getD};
 ghost use Rattle.words.specs.Words.{isBlank, endsWord, same, names, nameOf, digitOf, digitsOf, isHex, tokenOf, limit, capped, valueOf};
 ghost use Rattle.words.specs.Cursors.{tokensLeft, stepped};
 
+// The places of names among the names, from 1 on.
 pub const LOSE: u8 = 6;
 
 pub const NODES: u8 = 13;
@@ -92,7 +93,7 @@ fn is_same(a: &[u8], b: &[u8]) -> bool
     true
 }
 
-// Whether a word is the name with that place: of an action,
+// Whether a word is the name with that place, the word of an action.
 fn is_action(w: &[u8], k: u8) -> bool
     requires { ⌜ k < 12 ⌝ }
     ensures { λ r. ⌜ r ≡ same (now (w .entry)) (getD names k []) ⌝ }
@@ -113,7 +114,7 @@ fn is_action(w: &[u8], k: u8) -> bool
     }
 }
 
-// of the other words of runs and settings,
+// Whether a word is the name with that place, another word of runs or settings.
 fn is_field(w: &[u8], k: u8) -> bool
     requires { ⌜ 12 ≤ k ⌝ }
     requires { ⌜ k < 22 ⌝ }
@@ -133,7 +134,7 @@ fn is_field(w: &[u8], k: u8) -> bool
     }
 }
 
-// of the words of questions alone;
+// Whether a word is the name with that place, a word of questions alone.
 fn is_question(w: &[u8], k: u8) -> bool
     requires { ⌜ 22 ≤ k ⌝ }
     requires { ⌜ k < 33 ⌝ }
@@ -154,7 +155,7 @@ fn is_question(w: &[u8], k: u8) -> bool
     }
 }
 
-// of any of them.
+// Whether a word is the name with that place.
 fn is_name(w: &[u8], k: u8) -> bool
     requires { ⌜ k < 33 ⌝ }
     ensures { λ r. ⌜ r ≡ same (now (w .entry)) (getD names k []) ⌝ }
