@@ -23,6 +23,7 @@ pub enum Field {
     Bad(Fault),
 }
 
+// Whether a word is the name with that place.
 pub fn is_word(t: Token, k: u8) -> bool
     ensures { λ r. ⌜ r ≡ isWord k t ⌝ }
 {
@@ -51,6 +52,7 @@ fn as_number(line: &[u8], most: u32, t: Token, c: Cursor) -> Field
     }
 }
 
+// A number of at most `most`.
 pub fn number(line: &[u8], most: u32, c: Cursor) -> Field
     ensures { λ r. ⌜ seen (now (line .entry)) r ≡ numberIn most (tokensLeft (now (line .entry)) (c .at)) ⌝ }
     ensures { λ r. ⌜ fieldFits most r ⌝ }
@@ -73,6 +75,7 @@ fn as_address(line: &[u8], t: Token, c: Cursor) -> Field
     as_number(line, BYTE, t, c)
 }
 
+// An address, or `all`.
 pub fn address(line: &[u8], c: Cursor) -> Field
     ensures { λ r. ⌜ seen (now (line .entry)) r ≡ addressIn (tokensLeft (now (line .entry)) (c .at)) ⌝ }
     ensures { λ r. ⌜ fieldFits 255 r ⌝ }
@@ -187,6 +190,7 @@ fn as_report(line: &[u8], t: Token, c: Cursor) -> Field
     }
 }
 
+// A report, by the number of its first word.
 pub fn report(line: &[u8], c: Cursor) -> Field
     ensures { λ r. ⌜ seen (now (line .entry)) r ≡ reportIn (tokensLeft (now (line .entry)) (c .at)) ⌝ }
 {
