@@ -148,14 +148,14 @@ fn look(b: Bus, a: Action) -> Decoded
     record::decode(b.n, a)
 }
 
-// A step on any state: 12, then 2 to 6 (13 after 5), then 7.
+// A step on any state: 12, then 2 to 6 (13 and 15 after 5), then 7.
 pub fn step(b: Bus, a: Action) -> Played
     ensures { λ r. ⌜ seen r ≡ step (view b) a ⌝ }
 {
     carry_out(b, look(b, a))
 }
 
-// The clauses of 12 that make a step safe, then 2 to 6 (13 after 5).
+// The clauses of 12 that make a step safe, then 2 to 6 (13 and 15 after 5).
 fn glance(n: u8, phase: Phase, a: Action) -> Decoded
     ensures { λ r. ⌜ r ≡ glance n phase a ⌝ }
 {

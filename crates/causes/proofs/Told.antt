@@ -34,6 +34,7 @@ examples :
     × (told Run 2 2 (ascii "request 0 2 3 4 * 7\r") (F.Refused 5) ≡ ascii "line 2: refused 5: request 0 2 3 4 * 7: no address 2, addresses are 0 to 1 and all\n")
     × (told Run 2 2 (ascii "respond 0 16 hold") (F.Refused 6) ≡ ascii "line 2: refused 6: respond 0 16 hold: no acknowledgement 16, they are 0 to 15\n")
     × (told Run 2 2 (ascii "request 0 1 5 6 label 64 * 2") (F.Refused 13) ≡ ascii "line 2: refused 13: request 0 1 5 6 label 64 * 2: no label 64, labels are 0 to 63\n")
+    × (told Run 3 2 (ascii "request 0 0 5 6") (F.Refused 15) ≡ ascii "line 3: refused 15: request 0 0 5 6: node 0 would send to itself\n")
     × (told Run 3 2 (ascii "request 0 1 5 6 label # 7") F.MissingField ≡ ascii "line 3: missing field: the label of request\n")
     × (told Run 4 2 (ascii "request 0 1 5 6 label 256") F.TooLarge ≡ ascii "line 4: number too large: \"256\", the label of request, at most 255\n")
     × (told Run 5 2 (ascii "request 0 1 5 6 * x") F.NotNumber ≡ ascii "line 5: not a number: \"x\", the count after *\n")
@@ -46,7 +47,7 @@ examples :
     × (told Run 1 0 (255 ∷ 254 ∷ 110 ∷ 0 ∷ []) F.UnknownWord ≡ ascii "line 1: unknown word: \"\\xFF\\xFEn\\x00\" (no plain text: UTF-16, or a binary file)\n")
     × (told Run 1 0 (replicate 70 97) F.UnknownWord ≡ ascii "line 1: unknown word: \"" ++ (replicate 64 97 ++ ascii "..\"\n"))
 unfolding faultWords shownByte shown hint fieldOf settingWords questionWords fieldWords causeWords faultLine decimal nameOf digitOf digitsOf tokenOf tokensOf numberIn addressIn addressOrNone optionIn lastOf repeatOf endingOf requestOf nodeOf respondOf changeOf actionOf nodesOf actionsOf userOf reportIn depthIn findOf restOf namedOf saidBy lineOf isWrong endsWith isAt firstIn wordIn statementIn refusalOf namedAt placeInLine placeAt blameIn blameOf
-examples = (refl, refl, refl, refl, refl, refl, refl, refl, refl, refl, refl, refl, refl, refl, refl, refl, refl, refl, refl, refl, refl, refl)
+examples = (refl, refl, refl, refl, refl, refl, refl, refl, refl, refl, refl, refl, refl, refl, refl, refl, refl, refl, refl, refl, refl, refl, refl)
 
 -- the same of settings, one for each field and each number
 of-settings :
@@ -62,8 +63,10 @@ of-settings :
     × (told Settings 1 0 (ascii "nodes 64") (F.Refused 1) ≡ ascii "line 1: refused 1: nodes 64: a bus has 2 to 63 nodes\n")
     × (told Settings 3 2 (ascii "user 2 to 5") (F.Refused 4) ≡ ascii "line 3: refused 4: user 2 to 5: no node 2, nodes are 0 to 1\n")
     × (told Settings 3 2 (ascii "user 1 to 5 # 5") (F.Refused 5) ≡ ascii "line 3: refused 5: user 1 to 5: no address 5, addresses are 0 to 1 and all\n")
+    × (told Settings 3 2 (ascii "user 1 to 1 hold") (F.Refused 15) ≡ ascii "line 3: refused 15: user 1 to 1 hold: node 1 would send to itself\n")
+    × (told Settings 3 2 [] F.NoUser ≡ ascii "line 3: no user 0 line\n")
 unfolding faultWords shownByte shown hint fieldOf settingWords questionWords fieldWords causeWords faultLine decimal nameOf digitOf digitsOf tokenOf tokensOf numberIn addressIn addressOrNone optionIn lastOf repeatOf endingOf requestOf nodeOf respondOf changeOf actionOf nodesOf actionsOf userOf reportIn depthIn findOf restOf namedOf saidBy lineOf isWrong endsWith isAt firstIn wordIn statementIn refusalOf namedAt placeInLine placeAt blameIn blameOf
-of-settings = (refl, refl, refl, refl, refl, refl, refl, refl, refl, refl, refl, refl)
+of-settings = (refl, refl, refl, refl, refl, refl, refl, refl, refl, refl, refl, refl, refl, refl)
 
 -- the same of questions
 of-questions :

@@ -32,6 +32,7 @@ isMissing F.NoRepeat = false
 isMissing F.LongLine = false
 isMissing F.NodesMissing = false
 isMissing F.NodesAgain = false
+isMissing F.NoUser = false
 isMissing F.NoAction = false
 isMissing F.TooMany = false
 isMissing F.NoQuestion = false
@@ -99,14 +100,16 @@ refusalOf n k (Acts a t) =
     cond (eqb k N.wrong-node) (C.Node (a .node) n)
     (cond (eqb k N.wrong-address) (C.Address (a .address) n)
     (cond (eqb k N.wrong-label) (C.Label (a .label))
+    (cond (eqb k N.to-itself) (C.Own (a .node))
     (cond (eqb k N.wrong-answer) (C.Ack (a .ack))
     (cond (eqb k N.not-open) C.Closed
-    C.Plain))))
+    C.Plain)))))
 refusalOf n k (Actions x) = C.Plain
 refusalOf n k (L.User i u) =
     cond (eqb k N.wrong-node) (C.Node i n)
     (cond (eqb k N.wrong-address) (C.Address (u .address) n)
-    C.Plain)
+    (cond (eqb k N.to-itself) (C.Own i)
+    C.Plain))
 refusalOf n k (Finds q d) =
     cond (eqb k N.too-deep) C.Depth
     (cond (eqb k N.wrong-node) (C.Node (q .node) n)
@@ -150,6 +153,7 @@ blameIn text n line F.NoRepeat = blamed C.Plain (span 0 0)
 blameIn text n line F.LongLine = blamed C.Plain (span 0 0)
 blameIn text n line F.NodesMissing = blamed C.Plain (span 0 0)
 blameIn text n line F.NodesAgain = blamed C.Plain (span 0 0)
+blameIn text n line F.NoUser = blamed C.Plain (span 0 0)
 blameIn text n line F.NoAction = blamed C.Plain (span 0 0)
 blameIn text n line F.TooMany = blamed C.Plain (span 0 0)
 blameIn text n line F.NoQuestion = blamed C.Plain (span 0 0)

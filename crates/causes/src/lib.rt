@@ -27,6 +27,8 @@ const WRONG_LABEL: u8 = 13;
 
 const TOO_DEEP: u8 = 14;
 
+const TO_ITSELF: u8 = 15;
+
 // Why a line has a fault, and the part of it that is to blame: its bytes from a place up to another.
 pub struct Blamed {
     pub cause: Cause,
@@ -63,6 +65,7 @@ fn is_missing(fault: Fault) -> bool
         Fault::LongLine => false,
         Fault::NodesMissing => false,
         Fault::NodesAgain => false,
+        Fault::NoUser => false,
         Fault::NoAction => false,
         Fault::TooMany => false,
         Fault::NoQuestion => false,
@@ -229,6 +232,9 @@ fn refusal(n: u8, k: u8, said: Line) -> Cause
             if k == WRONG_LABEL {
                 return Cause::Label(a.label);
             }
+            if k == TO_ITSELF {
+                return Cause::Own(a.node);
+            }
             if k == WRONG_ANSWER {
                 return Cause::Ack(a.ack);
             }
@@ -244,6 +250,9 @@ fn refusal(n: u8, k: u8, said: Line) -> Cause
             }
             if k == WRONG_ADDRESS {
                 return Cause::Address(u.address, n);
+            }
+            if k == TO_ITSELF {
+                return Cause::Own(node);
             }
             Cause::Plain
         }
@@ -354,6 +363,7 @@ fn blame_in(text: Text, n: u8, line: &[u8], fault: Fault) -> Blamed
         Fault::LongLine => nowhere(Cause::Plain),
         Fault::NodesMissing => nowhere(Cause::Plain),
         Fault::NodesAgain => nowhere(Cause::Plain),
+        Fault::NoUser => nowhere(Cause::Plain),
         Fault::NoAction => nowhere(Cause::Plain),
         Fault::TooMany => nowhere(Cause::Plain),
         Fault::NoQuestion => nowhere(Cause::Plain),

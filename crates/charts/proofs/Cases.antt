@@ -1,13 +1,13 @@
--- Sanity, computed by the checker: the marked cases A to F and I of document 01, a reply and labels as a table, played by the charts, and a refusal of each number that a step gives.
+-- Sanity, computed by the checker: the marked cases A to F and I of document 01, a reply and labels as a table, played by the charts, and a refusal of each number that a step, a trial and a question give.
 use mathlib.Core.Path.{_≡_, refl}
 use mathlib.Core.Bool.{true, false, cond, true≢false}
 use mathlib.Core.List.{List, [], _∷_, _++_, map}
 use Prim.Native.Nat.{ℕ, zero, suc}
 use lib.Dec.{lit≤}
-use lib.ListN.{set, take, drop, replicate}
+use lib.ListN.{getD, set, take, drop, replicate}
 use Rattle.charts.specs.declared.Head.{Head}
 use Rattle.charts.specs.declared.Datum.the-variants as D
-use Rattle.charts.specs.declared.Mode.the-variants.{BodyOwn, BodyAll, TailOwn, TailAll}
+use Rattle.charts.specs.declared.Mode.the-variants.{BodyOwn, BodyAll, TailOwn, TailAll, Sending}
 use Rattle.charts.specs.declared.Reading.the-variants as Rd
 use Rattle.charts.specs.declared.Signal.the-variants.{Prefix, Header}
 use Rattle.charts.specs.declared.Report.{Report}
@@ -19,6 +19,7 @@ use Rattle.charts.specs.declared.Phase.the-variants.{Idle, Busy, Deliver
 use Rattle.charts.specs.declared.Way.the-variants.{Pass}
 use Rattle.charts.specs.declared.Move.the-variants.{Carry}
 use Rattle.charts.specs.declared.Action.{Action}
+use Rattle.charts.specs.declared.User.{User}
 use Rattle.charts.specs.declared.Word.{Word}
 use Rattle.charts.specs.declared.Word.the-variants as W
 use Rattle.charts.specs.declared.Question.{Question}
@@ -26,7 +27,7 @@ use Rattle.charts.specs.Numbers as N
 use Rattle.charts.specs.Reception.{hears}
 use Rattle.charts.specs.Outputs.{output}
 use Rattle.charts.specs.Arrivals.{arrives}
-use Rattle.charts.specs.State.{State, setMode, setBuffer, setSending, moved, freshCell, fresh}
+use Rattle.charts.specs.State.{State, setMode, setBuffer, setSending, setHolder, moved, freshCell, fresh}
 use Rattle.charts.specs.Actions as Actions
 use Rattle.charts.specs.Actions.{outcome}
 use Rattle.charts.specs.Records.{clean, moveOf, read}
@@ -35,6 +36,7 @@ use Rattle.charts.specs.Step.{Result, Event, refuses, play, look, step, 
 use Rattle.charts.specs.Demand as Demand
 use Rattle.charts.specs.Demand.{history, allForward, meetsIdle}
 use Rattle.charts.specs.Stretch.{Witnessed}
+use Rattle.charts.specs.Trials.{trialNumber}
 use Rattle.charts.specs.Routes.{IsRoute, gives, isBusEvent, lastReport, routeNumber}
 use Rattle.charts.proofs.Whole.{every-confirmation-of}
 use Rattle.charts.proofs.Steps as S
@@ -123,9 +125,8 @@ abbrev acceptedOf : List Result → ℕ
 acceptedOf [] = 0
 acceptedOf (r ∷ l) = cond (isAccepted r) (suc (acceptedOf l)) (acceptedOf l)
 
-abbrev shows : ℕ → List Action → Shown
-shows n l =
-    record { reports = reportsFrom 0 (results (fresh n) l); refusals = refusalsFrom 0 (results (fresh n) l); done = acceptedOf (results (fresh n) l); bus = after (fresh n) l .phase }
+abbrev shows : State → List Action → Shown
+shows s l = record { reports = reportsFrom 0 (results s l); refusals = refusalsFrom 0 (results s l); done = acceptedOf (results s l); bus = after s l .phase }
 
 -- "n = 2: request 0 to 63 (header 1, data 2), arbitrate 0, six times clock 0 and pass, gap, gap" ("older runs hold 0" as their label)
 abbrev a : List Action
@@ -230,7 +231,7 @@ table =
     ∷ row 2 contention (at 4 (Won 0) ∷ at 6 (Lost 1) ∷ at 17 (Sent 0 0) ∷ at 18 (Broad 1 (head 1 0) 2) ∷ at 22 (Won 1) ∷ []) (at 5 7 ∷ at 23 7 ∷ at 24 7 ∷ []) 22 Busy
     ∷ []
 
-pub cases : map (λ (r : Row). shows (r .nodes) (r .actions)) table ≡ map (λ (r : Row). r .shown) table
+pub cases : map (λ (r : Row). shows (fresh (r .nodes)) (r .actions)) table ≡ map (λ (r : Row). r .shown) table
 unfolding step look play outcome Actions.request Actions.arbitrate Actions.respond Actions.clock Actions.carry Actions.grant Actions.gap Actions.reset Actions.ask Actions.decide output arrives hears clean moveOf read valid phaseFits cellFits modeFits
 cases = refl
 
@@ -281,6 +282,8 @@ refusals =
     ∷ refused (fresh 2) (clock 2) 4  -- n = 2, clock 2
     ∷ refused (fresh 2) (request 0 2 0 0 0) 5  -- n = 2, request to 2
     ∷ refused (fresh 2) (request 0 1 64 0 0) 13  -- label over 63
+    ∷ refused (fresh 2) (request 0 0 0 0 0) 15  -- request to the node itself, in Rest and in Holding
+    ∷ refused (after (fresh 2) (take 22 reply)) (request 1 1 8 7 8) 15
     ∷ refused (fresh 2) (act 4 0 0 0 0 1 0 0) 3  -- a label that the kind doesn't name
     ∷ refused (fresh 2) (respond 0 16 0) 6  -- respond 16
     ∷ refused (fresh 2) (respond 0 0 2) 6
@@ -293,13 +296,15 @@ refusals =
     ∷ refused (fresh 2) (decide 2) 4
     ∷ refused (fresh 0) reset 12  -- state with n = 0
     ∷ refused (fresh 64) reset 12
-    -- "A step looks at 12, then 2 to 7" (13 "after 5"): each of these has two faults
+    -- "A step looks at 12, then 2 to 7" (13 "after 5", 15 "after 13"): each of these has two faults
     ∷ refused (fresh 0) (act 0 0 0 0 0 0 0 0) 12
     ∷ refused (fresh 2) (act 0 1 0 0 0 0 0 0) 2
     ∷ refused (fresh 2) (act 4 2 1 0 0 0 0 0) 3
     ∷ refused (fresh 2) (request 2 2 0 0 0) 4
     ∷ refused (fresh 2) (request 0 2 64 0 0) 5
     ∷ refused (after (fresh 2) (take 13 (b 0))) (request 0 1 64 0 0) 13
+    ∷ refused (fresh 2) (request 0 0 64 0 0) 13
+    ∷ refused (after (fresh 2) (take 13 (b 0))) (request 0 0 0 0 0) 15
     ∷ []
 
 pub refusals-hold : map (λ (r : Refusal). step (r .handed) (r .action) .number) refusals ≡ map (λ (r : Refusal). r .number) refusals
@@ -323,6 +328,19 @@ pub labels-looked-at : (map (λ s. step s reset .number) (holding 64) ≡ replic
 unfolding step look play outcome Actions.request Actions.arbitrate Actions.respond Actions.clock Actions.carry Actions.grant Actions.gap Actions.reset Actions.ask Actions.decide output arrives hears clean moveOf read valid phaseFits cellFits modeFits
 labels-looked-at = (refl, refl)
 
+-- "A state handed in that already carries such a packet still plays it out": node 0's packet to itself, in Rest's buffer and in Sending, with the label 9. It is sent, and its miss comes by the gap
+abbrev itsOwn : Packet
+itsOwn = record { to = 0; head = head 5 9; datum = 6 }
+
+abbrev sends : List Action
+sends = times 6 (clock 0 ∷ pass ∷ []) ++ (gap ∷ gap ∷ [])
+
+pub played-out :
+    (shows (moved (fresh 2) Idle 0 (setBuffer (Full itsOwn) freshCell)) (arbitrate 0 ∷ sends) ≡ record { reports = at 0 (Won 0) ∷ at 13 (Miss 0 9) ∷ []; refusals = []; done = 15; bus = Idle })
+    × (shows (moved (fresh 2) Busy 0 (setHolder true (setMode (Sending 0) (setSending itsOwn freshCell)))) sends ≡ record { reports = at 12 (Miss 0 9) ∷ []; refusals = []; done = 14; bus = Idle })
+unfolding step look play outcome Actions.request Actions.arbitrate Actions.respond Actions.clock Actions.carry Actions.grant Actions.gap Actions.reset Actions.ask Actions.decide output arrives hears clean moveOf read valid phaseFits cellFits modeFits
+played-out = (refl, refl)
+
 -- "A refused step returns the number, the state handed in and no report": at every state and record
 pub refused-keeps : (s : State) (x : Action) → isAccepted (step s x) ≡ false → step s x ≡ refuses s (step s x .number)
 refused-keeps s x = go (stepped s x)
@@ -330,6 +348,40 @@ refused-keeps s x = go (stepped s x)
     go : {r : Result} {e : Event} → Stepped s x r e → isAccepted r ≡ false → r ≡ refuses s (r .number)
     go (S.refused k) q = refl
     go (S.acts v k l f w) q = absurd (true≢false q)
+
+-- a trial whose users send to these addresses, so many actions, and the number of its refusal
+pub record Tried : Type 0 where
+  pub nodes : ℕ
+  pub addresses : List ℕ
+  pub actions : ℕ
+  pub number : ℕ
+
+abbrev tried : ℕ → List ℕ → ℕ → ℕ → Tried
+tried n l k number = record { nodes = n; addresses = l; actions = k; number = number }
+
+abbrev sendsTo : List ℕ → ℕ → User
+sendsTo l i = record { spell = 0; address = getD l i 0; fillers = 0; hold = false; period = 0 }
+
+abbrev pub trials : List Tried
+trials =
+    tried 2 (1 ∷ 0 ∷ []) 1 0
+    ∷ tried 2 (1 ∷ 63 ∷ 2 ∷ []) 65535 0  -- node 2 is none
+    ∷ tried 1 (63 ∷ []) 1 1
+    ∷ tried 64 [] 1 1
+    ∷ tried 2 (1 ∷ 2 ∷ []) 1 5
+    ∷ tried 2 (0 ∷ 0 ∷ []) 1 15
+    ∷ tried 2 (1 ∷ 1 ∷ []) 1 15
+    ∷ tried 2 (1 ∷ 0 ∷ []) 0 11
+    -- "then […] by 5", "after 5", "then 0 actions by 11": each of these has two faults, the third in a later node than the other's
+    ∷ tried 1 (5 ∷ []) 1 1
+    ∷ tried 2 (1 ∷ 2 ∷ []) 0 5
+    ∷ tried 2 (0 ∷ 2 ∷ []) 1 5
+    ∷ tried 2 (1 ∷ 1 ∷ []) 0 15
+    ∷ []
+
+pub trials-hold : map (λ (t : Tried). trialNumber (sendsTo (t .addresses)) (t .nodes) (t .actions)) trials ≡ map (λ (t : Tried). t .number) trials
+unfolding trialNumber
+trials-hold = refl
 
 -- request 9: a question about a state handed in, its depth, and the number of its refusal
 pub record Asked : Type 0 where

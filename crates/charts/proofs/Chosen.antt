@@ -32,12 +32,12 @@ use Rattle.charts.specs.Arrivals as Arrivals
 use Rattle.charts.specs.State.{State, wons, pendings, holders, some, others, lowest, isIdle, isBusy, isGranting, isEmpty}
 use Rattle.charts.specs.Actions as Actions
 use Rattle.charts.specs.Actions.{Outcome, closed, does, when}
-use Rattle.charts.specs.Records.{isAddress, moveOf, read, clean, packetOf}
+use Rattle.charts.specs.Records.{isAddress, isOwn, moveOf, read, clean, packetOf}
 use Rattle.charts.specs.Valid.{valid}
 use Rattle.charts.specs.Step.{someAsked, carryOut, isAccepted, step}
 use Rattle.charts.specs.Asking.{ofNode}
 use Rattle.charts.specs.Demand.{isOpen}
-use Rattle.charts.specs.Trials.{Load, requestBy, respondBy, isDue, delivers, strays, holderOf, holdsNow, acts, asking, bidding, asker, starts, chooses, choice, onlyWaits, least, lefts, waits, waited}
+use Rattle.charts.specs.Trials.{Load, requestBy, respondBy, isDue, delivers, strays, holderOf, holdsNow, acts, asking, bidding, asker, starts, chooses, choice, onlyWaits, least, lefts, waits, waited, Sends}
 use Rattle.charts.specs.Settings.{HoldsAlone, HeldIfBusy}
 use Rattle.charts.proofs.Tools.{never, clash, implies, implied, and-true, both, or-true, and-no, pick, pick-by, by-test, below-suc, none-of, some-at, some-agree, lowest-none, lowest-of, lowest-lt, others-off, or-yes}
 use Rattle.charts.proofs.Places.{law-mode, active}
@@ -121,9 +121,9 @@ pub holder-lt : (s : State) → Ran s → s .phase ≡ Busy → holderOf s < s .
 holder-lt s r b = acts-one s r b .here
 
 -- 3. each is open
-read-request : (n i : ℕ) (u : User) (x : Kept) → i < n → isAddress n (u .address) ≡ true → read n (requestBy i u x) ≡ Accepted (Request i (packetOf (requestBy i u x)))
+read-request : (n i : ℕ) (u : User) (x : Kept) → i < n → isAddress n (u .address) ≡ true → isOwn i (u .address) ≡ false → read n (requestBy i u x) ≡ Accepted (Request i (packetOf (requestBy i u x)))
 unfolding read clean moveOf
-read-request n i u x l f = rw (lt-ltb i n l, f, lt-ltb (x .made % 64) 64 (omega arith))
+read-request n i u x l f g = rw (lt-ltb i n l, f, g, lt-ltb (x .made % 64) 64 (omega arith))
 
 read-respond : (n i : ℕ) (b : Bool) → i < n → read n (respondBy i b) ≡ Accepted (Respond i 1 b)
 unfolding read clean moveOf
@@ -168,9 +168,9 @@ module _ (s : State) (r : Ran s) where
       go true = refl
       go false = refl
 
-  request-opens : (i : ℕ) (u : User) (x : Kept) → i < s .n → isAddress (s .n) (u .address) ≡ true → (isRest (s .cell i .mode) && isEmpty (s .cell i .buffer)) || isHolding (s .cell i .mode) ≡ true → isOpen s (requestBy i u x) ≡ true
+  request-opens : (i : ℕ) (u : User) (x : Kept) → i < s .n → (isAddress (s .n) (u .address) ≡ true) × (isOwn i (u .address) ≡ false) → (isRest (s .cell i .mode) && isEmpty (s .cell i .buffer)) || isHolding (s .cell i .mode) ≡ true → isOpen s (requestBy i u x) ≡ true
   unfolding Actions.outcome Actions.request
-  request-opens i u x l f e = opens-it s (r .valid-is) (requestBy i u x) (Request i (packetOf (requestBy i u x))) (read-request (s .n) i u x l f)
+  request-opens i u x l f e = opens-it s (r .valid-is) (requestBy i u x) (Request i (packetOf (requestBy i u x))) (read-request (s .n) i u x l (f .0) (f .1))
       (pick-by Opens (isRest (s .cell i .mode) && isEmpty (s .cell i .buffer)) _ _ (λ q. opens) (λ q. open-when (isHolding (s .cell i .mode)) _ (or-true _ _ e q) opens))
 
   -- an arbitration in Rest with a full buffer and no won mark wins the Idle bus
@@ -272,7 +272,7 @@ module _ (l : Load) where
           (some-agree (asking (waited l)) (asking l) n (λ k h. ap (λ x. isEmpty (l .state .cell k .buffer) && eqb x 0) (ap (λ w. l .kept k .left - w) (waits-none e) ∙ sub-zero (l .kept k .left)))) ∙ e
 
 -- 5. the chosen action is open
-module _ (us : ℕ → User) (l : Load) (r : Ran (l .state)) (fine : (k : ℕ) → k < l .state .n → isAddress (l .state .n) (us k .address) ≡ true) where
+module _ (us : ℕ → User) (l : Load) (r : Ran (l .state)) (fine : Sends us (l .state .n)) where
   abbrev s : State
   s = l .state
 

@@ -16,6 +16,7 @@ pub mod Sequences
 pub mod Counted
 pub mod Stretches
 pub mod Validity
+pub mod Retired
 pub mod Asking
 pub mod Beyond
 pub mod Views

@@ -4,7 +4,8 @@ use mathlib.Core.Logic.{_≢_, _⊎_, inl, inr, ⊎-elim}
 use mathlib.Core.Bool.{Bool, true, false, cond, _&&_, _||_, not, true≢false}
 use Prim.Native.Nat.{ℕ, suc, _<_}
 use lib.Dec.{eqb, ltb, leb}
-use borrow.Author.Tests.{eqb-true, lt-ltb}
+use native.Mathlib.Omega.{arith}
+use borrow.Author.Tests.{eqb-true, ne-eqb, lt-ltb}
 use Rattle.charts.specs.declared.Mode.{Mode}
 use Rattle.charts.specs.declared.Mode.the-variants.{Sending, Answering, Acking, Holding, Spurious}
 use Rattle.charts.specs.declared.Signal.{Signal}
@@ -43,9 +44,9 @@ use Rattle.charts.specs.Demand.{forward, isOpen, isForward}
 use Rattle.charts.specs.Trials.{strays}
 use Rattle.charts.specs.Settings.{HoldsAlone}
 use Rattle.charts.specs.Asking.{ofNode}
-use Rattle.charts.proofs.Tools.{never, clash, implies, implied, and-true, both, and-no, pick, none-of, some-at, lowest-of, lowest-lt, others-none, table-at, mem, mem-one, neither, or-yes, by-test}
+use Rattle.charts.proofs.Tools.{never, clash, implies, implied, and-true, both, and-no, pick, none-of, some-at, lowest-of, lowest-lt, others-none, table-at, mem, mem-one, neither, or-yes, or-false, by-test}
 use Rattle.charts.proofs.Places.{law-mode, active, stepOf, mode-is}
-use Rattle.charts.proofs.Steps.{Decodes, turned, taken, decodes}
+use Rattle.charts.proofs.Steps.{Decodes, turned, taken, decodes, is-valid}
 use Rattle.charts.proofs.Stages.{turnAt, clearSteps, acting, BusyAt, talks, clears, Stage}
 use Rattle.charts.proofs.Reach.{Reach, answerers, is-talker}
 use Rattle.charts.proofs.Progress.{acting-step, odd-clear}
@@ -76,7 +77,7 @@ clear-answers m h a z = go (eqb (placeOf m) P.sending) refl
 -- a record that names its node alone, and one below n, is read
 pub read-named : (n k i : ℕ) → isKind k ≡ true → namesNode k ≡ true → namesAddress k ≡ false → i < n → read n (ofNode k i) ≡ Accepted (moveOf (ofNode k i))
 unfolding read clean
-read-named n k i e f g l = rw (e, f, g, or-yes (namesAnswer k), or-yes (namesPacket k), lt-ltb i n l)
+read-named n k i e f g l = rw (e, f, g, or-yes (namesAnswer k), or-false (namesPacket k) _ g .0, lt-ltb i n l)
 
 -- a request to all nodes
 abbrev toAll : ℕ → Action
@@ -106,9 +107,7 @@ module _ (s : State) (v : valid s ≡ true) where
 
   read-request : (i : ℕ) → i < s .n → read (s .n) (toAll i) ≡ Accepted (Request i (nothing-to 63))
   unfolding read clean moveOf
-  read-request i l =
-      ap (λ b. cond (not b) (Refused N.wrong-node) (cond (not (ltb 63 (s .n) || true)) (Refused N.wrong-address) (Accepted (Request i (nothing-to 63))))) (lt-ltb i (s .n) l)
-      ∙ ap (λ b. cond (not b) (Refused N.wrong-address) (Accepted (Request i (nothing-to 63)))) (or-yes (ltb 63 (s .n)))
+  read-request i l = let small = is-valid s v .small in rw (lt-ltb i (s .n) l, or-yes (ltb 63 (s .n)), ne-eqb 63 i (λ e. omega arith))
 
   -- a node that is Asked with a full buffer is decided
   decide-opens : (i : ℕ) → i < s .n → isAsked (s .cell i .mode) ≡ true → isEmpty (s .cell i .buffer) ≡ false → Found

@@ -19,12 +19,12 @@ use Rattle.charts.specs.Modes.{isRest, isAnswering, isHolding, isAsked}
 use Rattle.charts.specs.Signals.{isChecked}
 use Rattle.charts.specs.State.{State, wons, askers, some, remarked, isIdle, isEmpty, fresh}
 use Rattle.charts.specs.Actions.{mayAnswer}
-use Rattle.charts.specs.Records.{isAddress, moveOf}
+use Rattle.charts.specs.Records.{moveOf}
 use Rattle.charts.specs.Valid.{valid}
 use Rattle.charts.specs.Step.{Result, Event, step, after, events, eventOf}
 use Rattle.charts.specs.Asking.{ofNode}
 use Rattle.charts.specs.Demand.{isOpen, one, final}
-use Rattle.charts.specs.Trials.{Load, respondBy, isDue, delivers, holderOf, isOver, asking, bidding, asker, onlyWaits, least, lefts, waits, waited, isCarried, checkedTo, came, rises, heardAfter, isOf, fills, filledAfter, wonBy, leftAfter, follows, turned, loadAfter, chosen, trial, counted, tallyOn}
+use Rattle.charts.specs.Trials.{Load, respondBy, isDue, delivers, holderOf, isOver, asking, bidding, asker, onlyWaits, least, lefts, waits, waited, isCarried, checkedTo, came, rises, heardAfter, isOf, fills, filledAfter, wonBy, leftAfter, follows, turned, loadAfter, chosen, trial, counted, tallyOn, Sends}
 use Rattle.charts.specs.Settings.{HeldIfBusy, Turn, turnAt, turns, reportOf, isPast, fillersOf, cameTo, KeepsSettings, IsTrial}
 use Rattle.charts.proofs.Tools.{never, clash, and-true, both, and-no, and-yes, pick, pick-by, by-test, at-upd, none-of, some-none, lowest-of, lowest-lt}
 use Rattle.charts.proofs.Steps.{Stepped, refused, stepped, step-n, run-n}
@@ -99,7 +99,7 @@ not-asks us l a (asks q t) = refl
 not-asks us l a (bids q e t) = refl
 not-asks us l a (resets q e f) = refl
 
-module _ (us : ℕ → User) (n : ℕ) (two : 2 ≤ n) (small : n ≤ 63) (fine : (k : ℕ) → k < n → isAddress n (us k .address) ≡ true) where
+module _ (us : ℕ → User) (n : ℕ) (two : 2 ≤ n) (small : n ≤ 63) (fine : Sends us n) where
   abbrev load : ℕ → Load
   load k = loadAfter us n k
 
@@ -228,7 +228,7 @@ module _ (us : ℕ → User) (n i : ℕ) where
       go false e r = r
 
 -- 4. THE SETTINGS KEPT
-module _ (us : ℕ → User) (n : ℕ) (two : 2 ≤ n) (small : n ≤ 63) (fine : (k : ℕ) → k < n → isAddress n (us k .address) ≡ true) (k : ℕ) where
+module _ (us : ℕ → User) (n : ℕ) (two : 2 ≤ n) (small : n ≤ 63) (fine : Sends us n) (k : ℕ) where
   abbrev l : Load
   l = loadAfter us n k
 
@@ -251,9 +251,9 @@ module _ (us : ℕ → User) (n : ℕ) (two : 2 ≤ n) (small : n ≤ 63) (fine 
   unfolding waited
   ran-now = ran us n two small fine k
 
-  fine-now : (i : ℕ) → i < now .state .n → isAddress (now .state .n) (us i .address) ≡ true
+  fine-now : Sends us (now .state .n)
   unfolding waited
-  fine-now i h = subst (λ m. i < m → isAddress m (us i .address) ≡ true) (sym n-same) (fine i) h
+  fine-now = subst (Sends us) (sym n-same) fine
 
   -- a spell is over just if nothing is left of it after the waiting
   left-over : (i : ℕ) → isPast (us i .spell) i (waits l) before ≡ isOver (now .kept i)

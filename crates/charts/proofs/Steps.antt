@@ -22,15 +22,15 @@ use Rattle.charts.specs.declared.Decoded.the-variants.{Refused, Accepted
 use Rattle.charts.specs.Numbers as N
 use Rattle.charts.specs.State.{State, pendings, remarked}
 use Rattle.charts.specs.Actions.{Outcome, closed, does, nextOf, target, when}
-use Rattle.charts.specs.Records.{isKind, namesNode, namesAddress, clean, isAddress, isLabel, moveOf, badNode, badAddress, badLabel, badAnswer, read}
+use Rattle.charts.specs.Records.{isKind, namesNode, namesAddress, namesPacket, clean, isAddress, isOwn, isLabel, moveOf, badNode, badAddress, badLabel, requestsItself, badAnswer, read}
 use Rattle.charts.specs.Valid.{isSize, isAck, packetFits, phaseFits, cellFits, valid}
 use Rattle.charts.specs.Step.{Result, refuses, carryOut, about, play, look, stepWith, step, after, Event, refusal, accepted, eventOf, outcomeOf, mayAct}
 use Rattle.charts.proofs.Tools.{never, and-true, both, pick-by, lowest-below, every-at, by-test}
 use Rattle.charts.proofs.Ways.{Effect, effect}
 
--- the fields of a move are in their ranges: the node below n, the address an address, the label at most 63, the acknowledgement at most 15
+-- the fields of a move are in their ranges: the node below n, the address an address and not the requester's own, the label at most 63, the acknowledgement at most 15
 abbrev pub Known : ℕ → Move → Type 0
-Known n (Request i p) = (i < n) × (packetFits n p ≡ true)
+Known n (Request i p) = (i < n) × ((packetFits n p ≡ true) × (isOwn i (p .to) ≡ false))
 Known n (Arbitrate i) = i < n
 Known n (Respond i a h) = (i < n) × (isAck a ≡ true)
 Known n (Clock i) = i < n
@@ -47,7 +47,11 @@ implied-or : (a b : Bool) → a && not b ≡ false → a ≡ true → b ≡ true
 implied-or true b e q = not-false b e
 implied-or false b e q = never q
 
--- 2 to 6 and 13: a refusal has a number other than 0, and what is accepted is the record's action with its fields in range
+then-not : (a b : Bool) → a && b ≡ false → a ≡ true → b ≡ false
+then-not true b e q = e
+then-not false b e q = never q
+
+-- 2 to 6, 13 and 15: a refusal has a number other than 0, and what is accepted is the record's action with its fields in range
 pub data Decodes (n : ℕ) (a : Action) : Decoded → Type 0 where
   turned : {k : ℕ} → eqb k N.accepted ≡ false → Decodes n a (Refused k)
   taken : Known n (moveOf a) → Decodes n a (Accepted (moveOf a))
@@ -58,10 +62,10 @@ names-last k e5 e6 e7 e8 e9 e10 =
     by-test (ltb k 5) (λ e. rw e) λ e.
     rw (e, lt-ltb 10 k (omega (arith, ltb-false k 5 e, eqb-false k 5 e5, eqb-false k 6 e6, eqb-false k 7 e7, eqb-false k 8 e8, eqb-false k 9 e9, eqb-false k 10 e10)))
 
-move-known : (n : ℕ) (a : Action) → (namesNode (a .kind) ≡ true → a .node < n) → (namesAddress (a .kind) ≡ true → isAddress n (a .address) ≡ true) → isLabel (a .label) ≡ true → isAck (a .ack) ≡ true → Known n (moveOf a)
+move-known : (n : ℕ) (a : Action) → (namesNode (a .kind) ≡ true → a .node < n) → (namesAddress (a .kind) ≡ true → isAddress n (a .address) ≡ true) → isLabel (a .label) ≡ true → (namesPacket (a .kind) ≡ true → isOwn (a .node) (a .address) ≡ false) → isAck (a .ack) ≡ true → Known n (moveOf a)
 unfolding moveOf
-move-known n a node addr label ack =
-    pick-by K (eqb k 1) _ _ (λ e. (node (ap namesNode (eqb-true k 1 e)), both (isAddress n (a .address)) _ (addr (ap namesAddress (eqb-true k 1 e))) label)) λ e1.
+move-known n a node addr label other ack =
+    pick-by K (eqb k 1) _ _ (λ e. (node (ap namesNode (eqb-true k 1 e)), (both (isAddress n (a .address)) _ (addr (ap namesAddress (eqb-true k 1 e))) label, other e))) λ e1.
     pick-by K (eqb k 2) _ _ (λ e. node (ap namesNode (eqb-true k 2 e))) λ e2.
     pick-by K (eqb k 3) _ _ (λ e. (node (ap namesNode (eqb-true k 3 e)), ack)) λ e3.
     pick-by K (eqb k 4) _ _ (λ e. node (ap namesNode (eqb-true k 4 e))) λ e4.
@@ -87,8 +91,9 @@ decodes n a =
     pick-by (Decodes n a) (badNode n a) _ _ (λ e. turned refl) λ e4.
     pick-by (Decodes n a) (badAddress n a) _ _ (λ e. turned refl) λ e5.
     pick-by (Decodes n a) (badLabel a) _ _ (λ e. turned refl) λ e13.
+    pick-by (Decodes n a) (requestsItself a) _ _ (λ e. turned refl) λ e15.
     pick-by (Decodes n a) (badAnswer a) _ _ (λ e. turned refl) λ e6.
-    taken (move-known n a (λ u. ltb-true (a .node) n (implied-or _ _ e4 u)) (implied-or _ _ e5) (not-false _ e13) (and-true (ltb (a .ack) 16) _ (not-false _ e6) .0))
+    taken (move-known n a (λ u. ltb-true (a .node) n (implied-or _ _ e4 u)) (implied-or _ _ e5) (not-false _ e13) (then-not _ _ e15) (and-true (ltb (a .ack) 16) _ (not-false _ e6) .0))
 
 -- 12
 pub record Valid (s : State) : Type 0 where

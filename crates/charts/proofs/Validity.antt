@@ -37,7 +37,7 @@ use Rattle.charts.specs.Reception.{falls, hears}
 use Rattle.charts.specs.Numbers as N
 use Rattle.charts.specs.State.{State, moved, remarked, fresh, some, others, pendings, holders}
 use Rattle.charts.specs.Actions.{Outcome, closed, does, firstOther, nextOther, onward}
-use Rattle.charts.specs.Records.{isKind, clean, isAddress, isLabel, badNode, badAddress, badLabel, badAnswer, read}
+use Rattle.charts.specs.Records.{isKind, clean, isAddress, isLabel, badNode, badAddress, badLabel, requestsItself, badAnswer, read}
 use Rattle.charts.specs.Valid.{isSize, isAck, modeFits, packetFits, bufferFits, cellFits, signalFits, phaseFits, valid}
 use Rattle.charts.specs.Step.{Result, Event, carryOut, comesTo, about, play, look, stepWith, step, begin, after, results}
 use Rattle.charts.proofs.Tools.{implies, implied, and-true, both, pick, pick-by, at-upd, every-all, table-at, mem, by-test}
@@ -235,8 +235,8 @@ module _ (s : State) (v : Valid s) where
   fit : {m : Move} {i : ℕ} {o : Outcome} → Known n m → i < n → Effect s m i o → Fit n o
   unfolding modeFits phaseFits
   fit k l W.refuses = tt
-  fit {i = i} k l (W.waits e b) = (v .phase-fits, record { mode-fits = was i l .mode-fits; buffer-fits = k .1; packet-fits = was i l .packet-fits })
-  fit {i = i} k l (W.replies e) = (v .phase-fits, record { mode-fits = refl; buffer-fits = was i l .buffer-fits; packet-fits = k .1 })
+  fit {i = i} k l (W.waits e b) = (v .phase-fits, record { mode-fits = was i l .mode-fits; buffer-fits = k .1 .0; packet-fits = was i l .packet-fits })
+  fit {i = i} k l (W.replies e) = (v .phase-fits, record { mode-fits = refl; buffer-fits = was i l .buffer-fits; packet-fits = k .1 .0 })
   fit {i = i} k l (W.claims e b) = (v .phase-fits, in-mode i l _ refl)
   fit {i = i} k l (W.wins c q b w) = (refl, record { mode-fits = refl; buffer-fits = refl; packet-fits = subst (λ b. bufferFits n b ≡ true) b (was i l .buffer-fits) })
   fit {i = i} k l (W.loses c) = (v .phase-fits, in-mode i l _ refl)
@@ -287,7 +287,7 @@ valid-after s (a ∷ l) v = valid-after (step s a .state) l (valid-kept s a v)
 pub run-valid : (n : ℕ) → 2 ≤ n → n < 64 → (l : List Action) → valid (after (fresh n) l) ≡ true
 run-valid n two small l = valid-after (fresh n) l (fresh-valid n two small)
 
--- 12 is the answer to a state that is not valid only: reading a record gives 2 to 6 or 13, playing an action 0 or 7
+-- 12 is the answer to a state that is not valid only: reading a record gives 2 to 6, 13 or 15, playing an action 0 or 7
 abbrev Not12 : Decoded → Type 0
 Not12 (Refused k) = eqb k N.not-valid ≡ false
 Not12 (Accepted m) = Unit {0}
@@ -300,7 +300,8 @@ read-not-12 n a =
     pick Not12 (badNode n a) _ _ refl (
     pick Not12 (badAddress n a) _ _ refl (
     pick Not12 (badLabel a) _ _ refl (
-    pick Not12 (badAnswer a) _ _ refl tt)))))
+    pick Not12 (requestsItself a) _ _ refl (
+    pick Not12 (badAnswer a) _ _ refl tt))))))
 
 pub number-not-12 : (s : State) (a : Action) → valid s ≡ true → step s a .number ≢ N.not-valid
 unfolding step look play

@@ -22,3 +22,4 @@ pub mod Sequences
 pub mod Trials
 pub mod Settings
 pub mod Routes
+pub mod Retired

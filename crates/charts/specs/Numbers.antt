@@ -60,3 +60,7 @@ wrong-label = 13
 -- 14 (request 9): depth over 6 or n over 8
 abbrev pub too-deep : ℕ
 too-deep = 14
+
+-- 15 (request 10): request to the node itself
+abbrev pub to-itself : ℕ
+to-itself = 15

@@ -1,4 +1,4 @@
--- An action record looked at by the numbers 2 to 5, 13 and 6, in that order.
+-- An action record looked at by the numbers 2 to 5, 13, 15 and 6, in that order.
 use mathlib.Core.Bool.{Bool, cond, _&&_, _||_, not}
 use Prim.Native.Nat.{ℕ}
 use lib.Dec.{eqb, ltb}
@@ -49,6 +49,10 @@ blank = named 0 0 0
 abbrev pub isAddress : ℕ → ℕ → Bool
 isAddress n a = ltb a n || eqb a everybody
 
+-- "a node's own number" (request 10), of node i
+abbrev pub isOwn : ℕ → ℕ → Bool
+isOwn i a = eqb a i
+
 -- "the label for kind 1, 0 to 63"
 abbrev pub isLabel : ℕ → Bool
 isLabel x = ltb x 64
@@ -72,7 +76,7 @@ moveOf a =
     (cond (eqb (a .kind) 11) (Ask (a .node))
     (Decide (a .node))))))))))))
 
--- the conditions of 4, 5, 13 and 6: "node not below n"; "address neither below n nor 63"; "label over 63"; "acknowledgement over 15 or hold over 1"
+-- the conditions of 4, 5, 13, 15 and 6: "node not below n"; "address neither below n nor 63"; "label over 63"; "request to the node itself"; "acknowledgement over 15 or hold over 1"
 abbrev pub badNode : ℕ → Action → Bool
 badNode n a = namesNode (a .kind) && not (ltb (a .node) n)
 
@@ -82,10 +86,13 @@ badAddress n a = namesAddress (a .kind) && not (isAddress n (a .address))
 abbrev pub badLabel : Action → Bool
 badLabel a = not (isLabel (a .label))
 
+abbrev pub requestsItself : Action → Bool
+requestsItself a = namesPacket (a .kind) && isOwn (a .node) (a .address)
+
 abbrev pub badAnswer : Action → Bool
 badAnswer a = not (ltb (a .ack) 16 && ltb (a .hold) 2)
 
--- "then 2 to 6", and 13 "looked at after 5": the first number whose condition holds, or the action
+-- "then 2 to 6", 13 "looked at after 5" and 15 "looked at after 13": the first number whose condition holds, or the action
 unfoldable pub read : ℕ → Action → Decoded
 read n a =
     cond (not (isKind (a .kind))) (Refused N.wrong-kind)
@@ -93,5 +100,6 @@ read n a =
     (cond (badNode n a) (Refused N.wrong-node)
     (cond (badAddress n a) (Refused N.wrong-address)
     (cond (badLabel a) (Refused N.wrong-label)
+    (cond (requestsItself a) (Refused N.to-itself)
     (cond (badAnswer a) (Refused N.wrong-answer)
-    (Accepted (moveOf a)))))))
+    (Accepted (moveOf a))))))))

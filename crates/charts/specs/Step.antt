@@ -51,7 +51,7 @@ comesTo s m = when (mayAct s m) (outcomeOf s m)
 unfoldable pub play : State → Move → Result
 play s m = carryOut s (about s m) (comesTo s m)
 
--- "A step looks at 12, then 2 to 7" (13 after 5).
+-- "A step looks at 12, then 2 to 7" (13 after 5, 15 after 13).
 unfoldable pub look : State → Action → Decoded
 look s a = cond (valid s) (read (s .n) a) (Refused N.not-valid)
 

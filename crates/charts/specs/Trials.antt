@@ -1,7 +1,8 @@
 -- Request 8, "load trials": the rules of docs/TRIALS.md, by which a trial chooses each next action; the actions that it makes; the tally of a list of events. No proof is in this file.
+use mathlib.Core.Path.{_≡_}
 use mathlib.Core.Bool.{Bool, true, false, cond, _&&_, _||_, not}
 use mathlib.Core.List.{List, [], _∷_, _++_}
-use Prim.Native.Nat.{ℕ, zero, suc, _+_, _-_, _%_}
+use Prim.Native.Nat.{ℕ, zero, suc, _+_, _-_, _%_, _<_}
 use lib.Dec.{eqb, ltb, leb}
 use Rattle.charts.specs.declared.Mode.{Mode}
 use Rattle.charts.specs.declared.Signal.{Signal}
@@ -19,7 +20,7 @@ use Rattle.charts.specs.Numbers as N
 use Rattle.charts.specs.Modes.{isAnswering, isHolding, isSpurious}
 use Rattle.charts.specs.Signals.{isChecked}
 use Rattle.charts.specs.State.{State, wons, holders, some, lowest, isIdle, isEmpty, fresh}
-use Rattle.charts.specs.Records.{isAddress}
+use Rattle.charts.specs.Records.{isAddress, isOwn}
 use Rattle.charts.specs.Valid.{isSize}
 use Rattle.charts.specs.Step.{Result, Event, refusal, accepted, step}
 use Rattle.charts.specs.Asking.{ofNode}
@@ -204,16 +205,25 @@ unfoldable pub trial : (ℕ → User) → ℕ → ℕ → List Action
 trial us n zero = []
 trial us n (suc k) = trial us n k ++ (chosen us n k ∷ [])
 
--- "A bad n is refused by 1, then a bad address of a node below n by 5, then 0 actions by 11"
+-- "A bad n is refused by 1, then a bad address of a node below n by 5, then 0 actions by 11"; "a trial whose user sends to its own node is refused by [15], after 5": 5 is looked at for all
+-- nodes before 15 is for any
 abbrev pub strayAddress : (ℕ → User) → ℕ → ℕ → Bool
 strayAddress us n k = not (isAddress n (us k .address))
+
+abbrev pub ownAddress : (ℕ → User) → ℕ → Bool
+ownAddress us k = isOwn k (us k .address)
 
 unfoldable pub trialNumber : (ℕ → User) → ℕ → ℕ → ℕ
 trialNumber us n k =
     cond (not (isSize n)) N.wrong-size
     (cond (some (strayAddress us n) n) N.wrong-address
+    (cond (some (ownAddress us) n) N.to-itself
     (cond (eqb k 0) N.wrong-count
-    N.accepted))
+    N.accepted)))
+
+-- what 5 and 15 leave of the addresses
+abbrev pub Sends : (ℕ → User) → ℕ → Type 0
+Sends us n = (k : ℕ) → k < n → (isAddress n (us k .address) ≡ true) × (isOwn k (us k .address) ≡ false)
 
 -- 5. THE TALLY, of any list of events: "a request (kind 1) adds 1 to requests"
 abbrev pub isRequest : Move → Bool

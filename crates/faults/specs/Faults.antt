@@ -23,6 +23,7 @@ faultWords F.NoRepeat = ascii "repeat of 0"
 faultWords F.LongLine = ascii "line over 255 bytes"
 faultWords F.NodesMissing = ascii "no nodes line"
 faultWords F.NodesAgain = ascii "a second nodes line"
+faultWords F.NoUser = ascii "no user 0 line"
 faultWords F.NoAction = ascii "no action"
 faultWords F.TooMany = ascii "too many actions"
 faultWords F.NoQuestion = ascii "no find line"
@@ -149,9 +150,9 @@ wordOf w field = ascii ": " ++ (quoted w ++ (ascii ", " ++ fieldWords field))
 abbrev pub saidOf : List ℕ → List ℕ → List ℕ
 saidOf w what = ascii ": " ++ (shown w ++ what)
 
--- "STATEMENT `: no node ` the node", and so for an address, a label and an acknowledgement
-abbrev pub noneOf : List ℕ → List ℕ → ℕ → List ℕ
-noneOf w what x = saidOf w what ++ decimal x
+-- "STATEMENT `: no node ` the node", and so for an address, a label, a node that would send to itself and an acknowledgement
+abbrev pub saidWith : List ℕ → List ℕ → ℕ → List ℕ
+saidWith w what x = saidOf w what ++ decimal x
 
 -- the table's second column, w being the WORD or STATEMENT
 unfoldable pub causeWords : Cause → List ℕ → List ℕ
@@ -161,10 +162,11 @@ causeWords (C.Field kind place) w = wordOf w (fieldOf kind place)
 causeWords (C.Large kind place) w = wordOf w (fieldOf kind place) ++ mostWords (fieldOf kind place)
 causeWords (C.Missing kind place) w = ascii ": " ++ fieldWords (fieldOf kind place)
 causeWords C.Size w = saidOf w (ascii ": a bus has 2 to 63 nodes")
-causeWords (C.Node node n) w = noneOf w (ascii ": no node ") node ++ (ascii ", nodes are 0 to " ++ decimal (n - 1))
-causeWords (C.Address address n) w = noneOf w (ascii ": no address ") address ++ (ascii ", addresses are 0 to " ++ (decimal (n - 1) ++ ascii " and all"))
-causeWords (C.Label label) w = noneOf w (ascii ": no label ") label ++ ascii ", labels are 0 to 63"
-causeWords (C.Ack ack) w = noneOf w (ascii ": no acknowledgement ") ack ++ ascii ", they are 0 to 15"
+causeWords (C.Node node n) w = saidWith w (ascii ": no node ") node ++ (ascii ", nodes are 0 to " ++ decimal (n - 1))
+causeWords (C.Address address n) w = saidWith w (ascii ": no address ") address ++ (ascii ", addresses are 0 to " ++ (decimal (n - 1) ++ ascii " and all"))
+causeWords (C.Label label) w = saidWith w (ascii ": no label ") label ++ ascii ", labels are 0 to 63"
+causeWords (C.Own node) w = saidWith w (ascii ": node ") node ++ ascii " would send to itself"
+causeWords (C.Ack ack) w = saidWith w (ascii ": no acknowledgement ") ack ++ ascii ", they are 0 to 15"
 causeWords C.Closed w = saidOf w (ascii ": not open when its turn comes")
 causeWords C.Depth w = saidOf w (ascii ": a route has at most 6 actions, on a bus of at most 8 nodes")
 

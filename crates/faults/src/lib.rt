@@ -18,6 +18,7 @@ pub enum Fault {
     LongLine,
     NodesMissing,
     NodesAgain,
+    NoUser,
     NoAction,
     TooMany,
     NoQuestion,
@@ -46,6 +47,8 @@ pub enum Cause {
     Address(u8, u8),
     // No such label.
     Label(u8),
+    // A node that would send to itself.
+    Own(u8),
     // No such acknowledgement.
     Ack(u8),
     // An action that is not open.

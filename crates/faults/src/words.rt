@@ -4,7 +4,7 @@ ghost use Prim.Native.Nat.{_+_, _-_, _*_, _<_, _≤_};
 ghost use lib.ListN.{length, take, drop};
 ghost use Rattle.transcript.specs.Room.{Puts};
 ghost use Rattle.faults.specs.Faults.{faultWords, hexDigit, escaped, shownByte, shownBytes, shown, hasHere, has, hint, quoted};
-ghost use Rattle.faults.specs.Faults.{ofFirst, fieldOf, settingWords, questionWords, fieldWords, mostWords, wordOf, saidOf, noneOf, causeWords, faultLine};
+ghost use Rattle.faults.specs.Faults.{ofFirst, fieldOf, settingWords, questionWords, fieldWords, mostWords, wordOf, saidOf, saidWith, causeWords, faultLine};
 use crate::Cause;
 use crate::Fault;
 use crate::write;
@@ -31,6 +31,7 @@ fn put_fault_words(buf: &mut [u8], at: usize, fault: Fault) -> usize
         Fault::LongLine => write::put_word(buf, at, b"line over 255 bytes"),
         Fault::NodesMissing => write::put_word(buf, at, b"no nodes line"),
         Fault::NodesAgain => write::put_word(buf, at, b"a second nodes line"),
+        Fault::NoUser => write::put_word(buf, at, b"no user 0 line"),
         Fault::NoAction => write::put_word(buf, at, b"no action"),
         Fault::TooMany => write::put_word(buf, at, b"too many actions"),
         Fault::NoQuestion => write::put_word(buf, at, b"no find line"),
@@ -316,11 +317,11 @@ fn put_said(buf: &mut [u8], at: usize, w: &[u8], what: &[u8]) -> usize
     write::put_word(buf, c, what)
 }
 
-// A line and what it has that there is none of.
-fn put_none(buf: &mut [u8], at: usize, w: &[u8], what: &[u8], x: u8) -> usize
+// A line, and what is said of a number in it.
+fn put_said_with(buf: &mut [u8], at: usize, w: &[u8], what: &[u8], x: u8) -> usize
     requires { ⌜ at + 263 + length (now what) ≤ length (now buf) ⌝ }
     ensures { λ r. ⌜ r ≤ at + 263 + length (now (what .entry)) ⌝ }
-    ensures { λ r. ⌜ Puts (now (buf .entry)) at (noneOf (now (w .entry)) (now (what .entry)) x) r (now (buf .exit)) ⌝ }
+    ensures { λ r. ⌜ Puts (now (buf .entry)) at (saidWith (now (w .entry)) (now (what .entry)) x) r (now (buf .exit)) ⌝ }
 {
     let b = put_said(buf, at, w, what);
     write::put_u8(buf, b, x)
@@ -356,22 +357,26 @@ fn put_cause(buf: &mut [u8], at: usize, cause: Cause, w: &[u8]) -> usize
         }
         Cause::Size => put_said(buf, at, w, b": a bus has 2 to 63 nodes"),
         Cause::Node(node, n) => {
-            let b = put_none(buf, at, w, b": no node ", node);
+            let b = put_said_with(buf, at, w, b": no node ", node);
             let c = write::put_word(buf, b, b", nodes are 0 to ");
             write::put_u8(buf, c, last_of(n))
         }
         Cause::Address(address, n) => {
-            let b = put_none(buf, at, w, b": no address ", address);
+            let b = put_said_with(buf, at, w, b": no address ", address);
             let c = write::put_word(buf, b, b", addresses are 0 to ");
             let d = write::put_u8(buf, c, last_of(n));
             write::put_word(buf, d, b" and all")
         }
         Cause::Label(label) => {
-            let b = put_none(buf, at, w, b": no label ", label);
+            let b = put_said_with(buf, at, w, b": no label ", label);
             write::put_word(buf, b, b", labels are 0 to 63")
         }
+        Cause::Own(node) => {
+            let b = put_said_with(buf, at, w, b": node ", node);
+            write::put_word(buf, b, b" would send to itself")
+        }
         Cause::Ack(ack) => {
-            let b = put_none(buf, at, w, b": no acknowledgement ", ack);
+            let b = put_said_with(buf, at, w, b": no acknowledgement ", ack);
             write::put_word(buf, b, b", they are 0 to 15")
         }
         Cause::Closed => put_said(buf, at, w, b": not open when its turn comes"),

@@ -45,7 +45,7 @@ pub record IsFile (n : ℕ) (l : List Action) (s : List ℕ) : Type 0 where
   pub bytes : Bytes s
   pub blocks : Blocks n 0 l s
 
--- a non-empty list of actions that the writer takes for n nodes, each by 1 and 2 to 6 (13 after 5), and whose blocks have numbers of 32 bits
+-- a non-empty list of actions that the writer takes for n nodes, each by 1 and 2 to 6 (13 and 15 after 5), and whose blocks have numbers of 32 bits
 pub record Taken (n : ℕ) (l : List Action) : Type 0 where
   pub nodes : isSize n ≡ true
   pub some : 1 ≤ length l

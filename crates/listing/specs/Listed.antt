@@ -7,7 +7,7 @@ use Rattle.record.specs.Looked.{numberOf}
 use Rattle.transcript.specs.Printed.{actionLine}
 use Rattle.walk.specs.Walk.{Turn, Walker, nodesOnce, walked}
 
--- an action looked at by 2 to 6 (13 after 5), and its line; the state of the walk is block 0's n
+-- an action looked at by 2 to 6 (13 and 15 after 5), and its line; the state of the walk is block 0's n
 abbrev pub turn : Action → ℕ → Turn ℕ
 turn a n = record { number = numberOf (read n a); line = actionLine a; state = n }
 

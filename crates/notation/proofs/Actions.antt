@@ -12,7 +12,7 @@ use Rattle.charts.specs.Signals.{everybody}
 use Rattle.charts.specs.declared.Action.{Action}
 use Rattle.charts.specs.declared.Move.{Move}
 use Rattle.charts.specs.declared.Decoded.the-variants as D
-use Rattle.charts.specs.Records.{isKind, namesNode, namesAddress, namesAnswer, namesPacket, clean, moveOf, badNode, badAddress, badLabel, read}
+use Rattle.charts.specs.Records.{isKind, namesNode, namesAddress, namesAnswer, namesPacket, clean, moveOf, badNode, badAddress, badLabel, requestsItself, read}
 use Rattle.record.specs.Layout.{Fits}
 use Rattle.runfile.proofs.Loops.{and-left, and-right}
 use Rattle.transcript.specs.Text.{ascii, decimal}
@@ -47,19 +47,20 @@ record Shown (a : Action) : Type 0 where
 shown : (n : ℕ) (a : Action) (m : Move) → read n a ≡ D.Accepted m → Shown a
 unfolding read
 shown n a m h =
-    go (isKind (a .kind)) (clean a) (badNode n a) (badAddress n a) (badLabel a) (ltb (a .ack) 16 && ltb (a .hold) 2) refl refl refl h
+    go (isKind (a .kind)) (clean a) (badNode n a) (badAddress n a) (badLabel a) (requestsItself a) (ltb (a .ack) 16 && ltb (a .hold) 2) refl refl refl h
   where
-    go : (p q r s u t : Bool) → isKind (a .kind) ≡ p → clean a ≡ q → (ltb (a .ack) 16 && ltb (a .hold) 2) ≡ t
+    go : (p q r s u o t : Bool) → isKind (a .kind) ≡ p → clean a ≡ q → (ltb (a .ack) 16 && ltb (a .hold) 2) ≡ t
         → cond (not p) (D.Refused N.wrong-kind) (cond (not q) (D.Refused N.stray-field) (cond r (D.Refused N.wrong-node) (cond s (D.Refused N.wrong-address)
-        (cond u (D.Refused N.wrong-label) (cond (not t) (D.Refused N.wrong-answer) (D.Accepted (moveOf a))))))) ≡ D.Accepted m
+        (cond u (D.Refused N.wrong-label) (cond o (D.Refused N.to-itself) (cond (not t) (D.Refused N.wrong-answer) (D.Accepted (moveOf a)))))))) ≡ D.Accepted m
         → Shown a
-    go true true false false false true ep eq et e = record { kind = ep; clear = eq; answer = et }
-    go true true false false false false ep eq et e = absurd (let z : _≡_ {A = ℕ} 0 1 = cc in omega arith)
-    go true true false false true t ep eq et e = absurd (let z : _≡_ {A = ℕ} 0 1 = cc in omega arith)
-    go true true false true u t ep eq et e = absurd (let z : _≡_ {A = ℕ} 0 1 = cc in omega arith)
-    go true true true s u t ep eq et e = absurd (let z : _≡_ {A = ℕ} 0 1 = cc in omega arith)
-    go true false r s u t ep eq et e = absurd (let z : _≡_ {A = ℕ} 0 1 = cc in omega arith)
-    go false q r s u t ep eq et e = absurd (let z : _≡_ {A = ℕ} 0 1 = cc in omega arith)
+    go true true false false false false true ep eq et e = record { kind = ep; clear = eq; answer = et }
+    go true true false false false false false ep eq et e = absurd (let z : _≡_ {A = ℕ} 0 1 = cc in omega arith)
+    go true true false false false true t ep eq et e = absurd (let z : _≡_ {A = ℕ} 0 1 = cc in omega arith)
+    go true true false false true o t ep eq et e = absurd (let z : _≡_ {A = ℕ} 0 1 = cc in omega arith)
+    go true true false true u o t ep eq et e = absurd (let z : _≡_ {A = ℕ} 0 1 = cc in omega arith)
+    go true true true s u o t ep eq et e = absurd (let z : _≡_ {A = ℕ} 0 1 = cc in omega arith)
+    go true false r s u o t ep eq et e = absurd (let z : _≡_ {A = ℕ} 0 1 = cc in omega arith)
+    go false q r s u o t ep eq et e = absurd (let z : _≡_ {A = ℕ} 0 1 = cc in omega arith)
 
 named-or : (b p : Bool) → (b || p) ≡ true → b ≡ false → p ≡ true
 named-or true p h e = absurd (let z : _≡_ {A = ℕ} 0 1 = cc in omega arith)

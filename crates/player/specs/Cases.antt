@@ -134,7 +134,7 @@ case-H = record {
 -- "n = 1 refused, 2 and 63 taken, 64 refused; acknowledgement 15 taken, 16 refused"
 abbrev pub case-I-1 : Row
 case-I-1 = record {
-  file = fileOf 1 (request 0 0 0 0 0 ∷ []);
+  file = fileOf 1 (request 0 63 0 0 0 ∷ []);
   text = ascii "refused 0 1\n";
 }
 
@@ -266,8 +266,22 @@ case-contention-clocked = record {
   text = ascii "nodes 2\n0 1 -\n1 1 -\n2 11 -\n3 11 -\n4 12 0 won\nrefused 5 7\n";
 }
 
+-- request 10: "A run that still has one is played up to it, prints its lines as before, and stops there with the new number": from Rest, in the second block of a whole file; and from Holding
+abbrev pub case-own-Rest : Row
+case-own-Rest = record {
+  file = fileOf 2 (sends 1 0 5 6 pass pass ++ (answers 1 pass ++ (request 1 63 0 3 4 ∷ arbitrate 1 ∷ clock 1 ∷ pass ∷ clock 1 ∷ pass ∷ clock 1 ∷ pass ∷ clock 1 ∷ pass ∷ clock 1 ∷ pass ∷ clock 1 ∷ pass ∷ gap ∷ gap ∷ request 0 0 0 5 6 ∷ arbitrate 0 ∷ [])));
+  text = ascii "nodes 2\n0 1 -\n1 2 0 won\n2 4 -\n3 5 -\n4 4 -\n5 5 -\n6 4 -\n7 5 -\n8 4 -\n9 5 -\n10 4 -\n11 5 -\n12 4 -\n13 5 1 good 5 6 0\n14 8 -\n15 3 -\n16 4 -\n17 5 -\n18 4 -\n19 5 -\n20 4 -\n21 5 0 ack 1 0\n22 9 -\n23 9 -\n24 1 -\n25 2 1 won\n26 4 -\n27 5 -\n28 4 -\n29 5 -\n30 4 -\n31 5 -\n32 4 -\n33 5 -\n34 4 -\n35 5 -\n36 4 1 sent 0\n37 5 0 broad 3 4 0\n38 9 -\n39 9 -\nrefused 40 15\n";
+}
+
+abbrev pub case-own-Holding : Row
+case-own-Holding = record {
+  file = fileOf 2 (sends 1 0 5 6 pass pass ++ (grant ∷ respond 1 1 1 ∷ clock 1 ∷ pass ∷ clock 1 ∷ pass ∷ clock 1 ∷ pass ∷ request 1 1 0 7 8 ∷ clock 1 ∷ pass ∷ []));
+  text = ascii "nodes 2\n0 1 -\n1 2 0 won\n2 4 -\n3 5 -\n4 4 -\n5 5 -\n6 4 -\n7 5 -\n8 4 -\n9 5 -\n10 4 -\n11 5 -\n12 4 -\n13 5 1 good 5 6 0\n14 8 -\n15 3 -\n16 4 -\n17 5 -\n18 4 -\n19 5 -\n20 4 -\n21 5 0 ack 1 0\nrefused 22 15\n";
+}
+
 abbrev pub cases : List Row
 cases =
     case-A ∷ case-B ∷ case-C ∷ case-D ∷ case-E ∷ case-F-refused ∷ case-F-taken ∷ case-G ∷ case-H ∷ case-I-1 ∷ case-I-2 ∷ case-I-63 ∷ case-I-64 ∷ case-I-15 ∷ case-I-16
     ∷ case-reply ∷ case-reply-held ∷ case-label-A ∷ case-label-B ∷ case-label-C ∷ case-label-E ∷ case-label-63 ∷ case-label-64
-    ∷ case-drop-HeadOwn ∷ case-drop-BodyOwn ∷ case-drop-HeadAll ∷ case-drop-BodyAll ∷ case-drop-TailAll ∷ case-contention ∷ case-contention-clocked ∷ []
+    ∷ case-drop-HeadOwn ∷ case-drop-BodyOwn ∷ case-drop-HeadAll ∷ case-drop-BodyAll ∷ case-drop-TailAll ∷ case-contention ∷ case-contention-clocked
+    ∷ case-own-Rest ∷ case-own-Holding ∷ []

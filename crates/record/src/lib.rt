@@ -1,11 +1,11 @@
-// An action record: its 16 bytes ("Run files"), and what the numbers 2 to 5, 13 and 6 make of it.
+// An action record: its 16 bytes ("Run files"), and what the numbers 2 to 5, 13, 15 and 6 make of it.
 ghost use mathlib.Core.Path.{_≡_};
 ghost use mathlib.Core.Bool.{true, cond, _&&_, _||_};
 ghost use mathlib.Core.List.{[], _∷_};
 ghost use Prim.Native.Nat.{_+_, _<_, _≤_};
 ghost use lib.ListN.{length};
 ghost use lib.Seq.{sets};
-ghost use Rattle.charts.specs.Records.{isKind, namesNode, namesAddress, clean, named, isAddress, isLabel, moveOf, read};
+ghost use Rattle.charts.specs.Records.{isKind, namesNode, namesAddress, clean, named, isAddress, isOwn, isLabel, moveOf, read};
 ghost use Rattle.record.specs.Bytes.{little, value, hasRoom, putAt};
 ghost use Rattle.record.specs.Layout.{bytesOf, actionAt};
 ghost use Rattle.record.specs.Looked.{numberOf};
@@ -27,6 +27,8 @@ const WRONG_ADDRESS: u8 = 5;
 const WRONG_ANSWER: u8 = 6;
 
 const WRONG_LABEL: u8 = 13;
+
+const TO_ITSELF: u8 = 15;
 
 fn both(p: bool, q: bool) -> bool
     ensures { λ r. ⌜ r ≡ (p && q) ⌝ }
@@ -100,6 +102,13 @@ pub fn is_address(n: u8, address: u8) -> bool
     either(address < n, address == 63)
 }
 
+// A request of a node to its own number is 15.
+pub fn is_own(node: u8, address: u8) -> bool
+    ensures { λ r. ⌜ r ≡ isOwn node address ⌝ }
+{
+    address == node
+}
+
 // "label over 63" is 13.
 pub fn is_label(label: u8) -> bool
     ensures { λ r. ⌜ r ≡ isLabel label ⌝ }
@@ -141,7 +150,7 @@ fn move_of(a: Action) -> Move
     }
 }
 
-// An action record looked at by 2 to 5, 13 and 6, in that order.
+// An action record looked at by 2 to 5, 13, 15 and 6, in that order.
 pub fn decode(n: u8, a: Action) -> Decoded
     ensures { λ r. ⌜ r ≡ read n a ⌝ }
 {
@@ -160,6 +169,9 @@ pub fn decode(n: u8, a: Action) -> Decoded
     }
     if !is_label(a.label) {
         return Decoded::Refused(WRONG_LABEL);
+    }
+    if both(kind == 1, is_own(a.node, a.address)) {
+        return Decoded::Refused(TO_ITSELF);
     }
     if !both(a.ack < 16, a.hold < 2) {
         return Decoded::Refused(WRONG_ANSWER);

@@ -19,7 +19,7 @@ use Rattle.runfile.specs.declared.BlockHead.the-variants.{Holds}
 use Rattle.runfile.specs.Block.{isCount, weigh, zeros, checkSum, readBlock, usedBytes}
 use Rattle.runfile.specs.Sums.{sumsFor, sumsOf}
 
--- "then 2 to 6 for each action", and 13 "looked at after 5, by the writer too": the first refusal, or 0
+-- "then 2 to 6 for each action", 13 "looked at after 5, by the writer too", and 15 (request 10: "the writer does not write one"): the first refusal, or 0
 abbrev pub refusedOr : Decoded → ℕ → ℕ
 refusedOr (D.Refused k) later = k
 refusedOr (D.Accepted m) later = later
@@ -32,7 +32,7 @@ firstRefusal n (a ∷ l) = refusedOr (read n a) (firstRefusal n l)
 abbrev pub isRecords : ℕ → Bool
 isRecords size = isCount (size / 16) && eqb (size % 16) 0
 
--- "The writer looks at 8, 1, 11, then 2 to 6 for each action" (13 after 5). Bytes that are no whole number of action records have no count, and are 11.
+-- "The writer looks at 8, 1, 11, then 2 to 6 for each action" (13 and 15 after 5). Bytes that are no whole number of action records have no count, and are 11.
 unfoldable pub writeNumber : ℕ → ℕ → List ℕ → ℕ
 writeNumber size n records =
     cond (not (eqb size 512)) N.wrong-length

@@ -297,7 +297,7 @@ struct Summed {
     sums: [u32; 31],
 }
 
-// Takes so many action records in order, up to the first refusal: each is looked at by 2 to 6 (13 after 5), stored from byte 14 on, and summed.
+// Takes so many action records in order, up to the first refusal: each is looked at by 2 to 6 (13 and 15 after 5), stored from byte 14 on, and summed.
 fn take_actions(n: u8, records: &[u8], count: usize) -> Summed
     requires { ⌜ (count ≤ 31) × (length (now records) ≡ 16 * count) ⌝ }
     ensures { λ r. ⌜ r .refusal ≡ firstRefusal n (actionsOf count (now (records .entry))) ⌝ }

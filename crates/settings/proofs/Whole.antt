@@ -7,7 +7,7 @@ use native.Mathlib.Omega.{arith}
 use borrow.Author.Tests.{ltb-true}
 use lib.Dec.{eqb, ltb}
 use Rattle.charts.specs.Numbers as N
-use Rattle.charts.specs.Records.{isAddress}
+use Rattle.charts.specs.Records.{isAddress, isOwn}
 use Rattle.charts.specs.State.{upd}
 use Rattle.charts.specs.declared.User.{User}
 use Rattle.runfile.proofs.Loops.{and-right}
@@ -51,12 +51,13 @@ Reads s (wrong i f) = (s .stage ≡ Stopped f) × (s .line ≡ lineShown i)
 -- a user's line that goes on is one of a node below n
 below-n : (n i address : ℕ) → userStage n i address ≡ Going → i < n
 unfolding userStage
-below-n n i address e = go (eqb n 0) (ltb i n) (isAddress n address) refl e
+below-n n i address e = go (eqb n 0) (ltb i n) (isAddress n address) (isOwn i address) refl e
   where
-    go : (b c d : Bool) → ltb i n ≡ c → cond b (Stopped F.NodesMissing) (cond (not c) (Stopped (F.Refused N.wrong-node)) (cond (not d) (Stopped (F.Refused N.wrong-address)) Going)) ≡ Going → i < n
-    go false true d p h = ltb-true i n p
-    go false false d p h = absurd (let z : _≡_ {A = ℕ} 0 1 = cc in omega arith)
-    go true c d p h = absurd (let z : _≡_ {A = ℕ} 0 1 = cc in omega arith)
+    go : (b c d o : Bool) → ltb i n ≡ c
+        → cond b (Stopped F.NodesMissing) (cond (not c) (Stopped (F.Refused N.wrong-node)) (cond (not d) (Stopped (F.Refused N.wrong-address)) (cond o (Stopped (F.Refused N.to-itself)) Going))) ≡ Going → i < n
+    go false true d o p h = ltb-true i n p
+    go false false d o p h = absurd (let z : _≡_ {A = ℕ} 0 1 = cc in omega arith)
+    go true c d o p h = absurd (let z : _≡_ {A = ℕ} 0 1 = cc in omega arith)
 
 module _ (i n k : ℕ) (us : ℕ → User) (s : Settings) (a : After i n k us s) where
   next-line : counted (s .line) ≡ lineShown (suc i)
@@ -114,12 +115,12 @@ module _ (i n k : ℕ) (us : ℕ → User) (s : Settings) (a : After i n k us s)
   feed-goes t = rw (fed t) (line-goes (lineOf T.Settings t))
 
   -- the end of the text
-  finished : finishOf s ≡ goesOn s s (endStage n k)
+  finished : finishOf s ≡ goesOn s s (endStage n k (us 0))
   unfolding finishOf
-  finished = rw (a .going, a .nodes, a .actions)
+  finished = rw (a .going, a .nodes, a .actions, a .users 0)
 
-  end-goes : Reads (finishOf s) (endOn i (trial n k us) (endStage n k))
-  end-goes = rw finished (go (endStage n k))
+  end-goes : Reads (finishOf s) (endOn i (trial n k us) (endStage n k (us 0)))
+  end-goes = rw finished (go (endStage n k (us 0)))
     where
       go : (x : Stage) → Reads (goesOn s s x) (endOn i (trial n k us) x)
       go Going = (a .going, a .nodes, a .actions, fun-ext (a .users))

@@ -51,7 +51,7 @@ afterLine i (off f) next = wrong i f
 
 -- the meaning of lines after i lines that gave n, k and us
 abbrev pub settingsFrom : List (List ℕ) → ℕ → ℕ → ℕ → (ℕ → User) → Meaning
-settingsFrom [] i n k us = endOn i (trial n k us) (endStage n k)
+settingsFrom [] i n k us = endOn i (trial n k us) (endStage n k (us 0))
 settingsFrom (t ∷ ts) i n k us = afterLine (suc i) (lineOn n k us (lineOf T.Settings t)) (settingsFrom ts (suc i))
 
 -- "What is not said is 0, and release"

@@ -5,11 +5,12 @@ use Prim.Native.Nat.{ℕ}
 use lib.Dec.{eqb, ltb}
 use lib.ListN.{set, replicate}
 use Rattle.charts.specs.Numbers as N
-use Rattle.charts.specs.Records.{isAddress}
+use Rattle.charts.specs.Records.{isAddress, isOwn}
+use Rattle.charts.specs.View.{usersOf}
 use Rattle.charts.specs.declared.User.{User}
 use Rattle.charts.specs.declared.Users.{Users}
 use Rattle.faults.specs.declared.Fault.{Fault}
-use Rattle.faults.specs.declared.Fault.the-variants.{UnknownWord, NodesMissing, NoAction, Refused}
+use Rattle.faults.specs.declared.Fault.the-variants.{UnknownWord, NodesMissing, NoUser, NoAction, Refused}
 use Rattle.notation.specs.declared.Text.the-variants as T
 use Rattle.notation.specs.declared.Line.{Line}
 use Rattle.notation.specs.declared.Line.the-variants as L
@@ -68,13 +69,14 @@ actionsStage n = cond (eqb n 0) (Stopped NodesMissing) Going
 unfoldable pub actionsTaken : Settings → ℕ → Settings
 actionsTaken s k = goesOn s (forActions s k) (actionsStage (s .n))
 
--- "`refused 4`": "A user of a node that there is not."; "`refused 5`": "Looked at after 4."
+-- "`refused 4`": "A user of a node that there is not."; "`refused 5`": "Looked at after 4."; "`refused 15`": "Looked at after 5."
 unfoldable pub userStage : ℕ → ℕ → ℕ → Stage
 userStage n i address =
     cond (eqb n 0) (Stopped NodesMissing)
     (cond (not (ltb i n)) (Stopped (Refused N.wrong-node))
     (cond (not (isAddress n address)) (Stopped (Refused N.wrong-address))
-    Going))
+    (cond (isOwn i address) (Stopped (Refused N.to-itself))
+    Going)))
 
 unfoldable pub userTaken : Settings → ℕ → User → Settings
 userTaken s i u = goesOn s (forUsers s (withUser (s .users) i u)) (userStage (s .n) i (u .address))
@@ -93,9 +95,10 @@ lineTaken s (L.Wrong f) = stopped s f
 unfoldable pub feedOf : Settings → List ℕ → Settings
 feedOf s line = cond (isStopped (s .stage)) s (lineTaken (onLine s (counted (s .line))) (lineOf T.Settings line))
 
--- the text's end: "no line in the whole text that says something"; "`actions 0`, […] or no `actions` line: told at the text's end"
-abbrev pub endStage : ℕ → ℕ → Stage
-endStage n k = cond (eqb n 0) (Stopped NodesMissing) (cond (eqb k 0) (Stopped NoAction) Going)
+-- the text's end, with the user of node 0: "no line in the whole text that says something"; "`no user 0 line`": "what is not said is 0", and a line that sends it to 0 is refused, so it has none just
+-- where it sends to 0; "`actions 0`, […] or no `actions` line: told at the text's end"
+abbrev pub endStage : ℕ → ℕ → User → Stage
+endStage n k u = cond (eqb n 0) (Stopped NodesMissing) (cond (isOwn 0 (u .address)) (Stopped NoUser) (cond (eqb k 0) (Stopped NoAction) Going))
 
 unfoldable pub finishOf : Settings → Settings
-finishOf s = cond (isStopped (s .stage)) s (goesOn s s (endStage (s .n) (s .actions)))
+finishOf s = cond (isStopped (s .stage)) s (goesOn s s (endStage (s .n) (s .actions) (usersOf (s .users) 0)))

@@ -14,6 +14,8 @@ const WRONG_NODE: u8 = 4;
 
 const WRONG_ADDRESS: u8 = 5;
 
+const TO_ITSELF: u8 = 15;
+
 // The settings between two calls: the line last fed, n (0 before the `nodes` line), the number of actions, and the users.
 pub struct Settings {
     pub stage: Stage,
@@ -93,11 +95,15 @@ fn user_stage(n: u8, i: u8, address: u8) -> Stage
     }
     let there = i < n;
     let sent = record::is_address(n, address);
+    let own = record::is_own(i, address);
     if !there {
         return Stage::Stopped(Fault::Refused(WRONG_NODE));
     }
     if !sent {
         return Stage::Stopped(Fault::Refused(WRONG_ADDRESS));
+    }
+    if own {
+        return Stage::Stopped(Fault::Refused(TO_ITSELF));
     }
     Stage::Going
 }
@@ -168,7 +174,7 @@ pub fn feed(s: Settings, line: &[u8]) -> Settings
     take_line(on_line(s, notation::count_line(s.line)), said)
 }
 
-// The end of the text.
+// The end of the text. A user 0 that still sends to 0 has no line, since such a line is refused.
 pub fn finish(s: Settings) -> Settings
     ensures { λ r. ⌜ r ≡ finishOf s ⌝ }
 {
@@ -178,6 +184,11 @@ pub fn finish(s: Settings) -> Settings
     }
     if s.n == 0 {
         return stop(s, Fault::NodesMissing);
+    }
+    let users = s.users;
+    let address = users.address;
+    if record::is_own(0, address[0]) {
+        return stop(s, Fault::NoUser);
     }
     if s.actions == 0 {
         return stop(s, Fault::NoAction);

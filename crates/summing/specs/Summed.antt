@@ -17,7 +17,7 @@ use Rattle.walk.specs.Walk.{Turn, Walker, walked}
 use Rattle.walk.specs.Feeding.{Part}
 use Rattle.summing.specs.declared.block.Looked.{Looked}
 
--- an action looked at by 2 to 6 (13 after 5), without a line; the state of the walk is block 0's n
+-- an action looked at by 2 to 6 (13 and 15 after 5), without a line; the state of the walk is block 0's n
 abbrev pub turn : Action → ℕ → Turn ℕ
 turn a n = record { number = numberOf (read n a); line = []; state = n }
 

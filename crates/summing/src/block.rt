@@ -14,7 +14,7 @@ pub(crate) struct Looked {
     pub number: u8,
 }
 
-// Looks at a block's actions, the first of which has that index, by 2 to 6 (13 after 5), up to the first refusal.
+// Looks at a block's actions, the first of which has that index, by 2 to 6 (13 and 15 after 5), up to the first refusal.
 pub(crate) fn look_at_actions(n: u8, piece: &[u8], count: u8, first: u64) -> Looked
     requires { ⌜ length (now piece) ≡ 512 ⌝ }
     requires { ⌜ count ≤ 31 ⌝ }

@@ -1,4 +1,4 @@
--- A trial that is not refused: what 1, 5 and 11 have tested. Assumes nothing.
+-- A trial that is not refused: what 1, 5, 15 and 11 have tested. Assumes nothing.
 use mathlib.Core.Path.{_≡_, refl}
 use mathlib.Core.Logic.{_≢_}
 use mathlib.Core.Bool.{Bool, true, false, cond, not}
@@ -9,7 +9,7 @@ use borrow.Author.Tests.{eqb-false, ltb-true, lt-ltb, not-false}
 use Rattle.charts.specs.declared.User.{User}
 use Rattle.charts.specs.Numbers as N
 use Rattle.charts.specs.State.{some}
-use Rattle.charts.specs.Trials.{strayAddress, trialNumber}
+use Rattle.charts.specs.Trials.{strayAddress, ownAddress, trialNumber}
 use Rattle.charts.specs.Valid.{isSize}
 use Rattle.charts.proofs.Tools.{and-true, both, none-of}
 use Rattle.turns.specs.Turns.{Allowed}
@@ -35,12 +35,14 @@ pub record Goes (us : ℕ → User) (n k : ℕ) : Type 0 where
 
 pub goes : (us : ℕ → User) (n k : ℕ) → trialNumber us n k ≡ N.accepted → Goes us n k
 unfolding trialNumber
-goes us n k e = go (isSize n) (some (strayAddress us n) n) (eqb k 0) refl refl refl e
+goes us n k e = go (isSize n) (some (strayAddress us n) n) (some (ownAddress us) n) (eqb k 0) refl refl refl refl e
   where
-    go : (a b c : Bool) → isSize n ≡ a → some (strayAddress us n) n ≡ b → eqb k 0 ≡ c → cond (not a) N.wrong-size (cond b N.wrong-address (cond c N.wrong-count N.accepted)) ≡ N.accepted → Goes us n k
-    go true false false f g h e =
+    go : (a b c d : Bool) → isSize n ≡ a → some (strayAddress us n) n ≡ b → some (ownAddress us) n ≡ c → eqb k 0 ≡ d
+        → cond (not a) N.wrong-size (cond b N.wrong-address (cond c N.to-itself (cond d N.wrong-count N.accepted))) ≡ N.accepted → Goes us n k
+    go true false false false f g o h e =
         let z : k ≢ 0 = eqb-false k 0 h in
-        record { allowed = record { two = size-two n f; small = size-small n f; fine = λ j l. not-false _ (none-of (strayAddress us n) n g j l) }; some-actions = omega arith }
-    go true false true f g h e = let z : _≡_ {A = ℕ} 11 0 = e in absurd (omega arith)
-    go true true c f g h e = let z : _≡_ {A = ℕ} 5 0 = e in absurd (omega arith)
-    go false b c f g h e = let z : _≡_ {A = ℕ} 1 0 = e in absurd (omega arith)
+        record { allowed = record { two = size-two n f; small = size-small n f; fine = λ j l. (not-false _ (none-of (strayAddress us n) n g j l), none-of (ownAddress us) n o j l) }; some-actions = omega arith }
+    go true false false true f g o h e = let z : _≡_ {A = ℕ} 11 0 = e in absurd (omega arith)
+    go true false true d f g o h e = let z : _≡_ {A = ℕ} 15 0 = e in absurd (omega arith)
+    go true true c d f g o h e = let z : _≡_ {A = ℕ} 5 0 = e in absurd (omega arith)
+    go false b c d f g o h e = let z : _≡_ {A = ℕ} 1 0 = e in absurd (omega arith)

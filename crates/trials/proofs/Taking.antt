@@ -135,7 +135,7 @@ module _ (us : ℕ → User) (n : ℕ) (a : Allowed us n) where
     node-small i h = let e = n-is in let small = a .small in omega arith
 
     sent-small : (i : ℕ) → i < l .state .n → us i .address < 256
-    sent-small i h = address-small n (us i .address) (a .small) (a .fine i (subst (λ m. i < m) n-is h))
+    sent-small i h = address-small n (us i .address) (a .small) (a .fine i (subst (λ m. i < m) n-is h) .0)
 
     made-small : (i : ℕ) → k ≤ 65535 → l .kept i .made ≤ 65535
     made-small i few = let m = made-le us n i k in omega arith

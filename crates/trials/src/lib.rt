@@ -9,7 +9,7 @@ ghost use lib.ListN.{length};
 ghost use lib.Seq.{sets};
 ghost use Rattle.charts.specs.State.{some};
 ghost use Rattle.charts.specs.Valid.{isSize};
-ghost use Rattle.charts.specs.Trials.{begins, trial, strayAddress, trialNumber, noTally};
+ghost use Rattle.charts.specs.Trials.{begins, trial, strayAddress, ownAddress, trialNumber, noTally};
 ghost use Rattle.files.specs.File.{fileOf};
 ghost use Rattle.charts.specs.View.{usersOf};
 ghost use Rattle.turns.specs.Turns.{loadIn, Allowed};
@@ -17,12 +17,15 @@ ghost use Rattle.trials.specs.Trying.{tried, triedOf, answered, fileAfte
 use block::Trial;
 use charts::Tally;
 use charts::Users;
+use deciding::bools;
 
 const WRONG_SIZE: u8 = 1;
 
 const WRONG_ADDRESS: u8 = 5;
 
 const WRONG_COUNT: u8 = 11;
+
+const TO_ITSELF: u8 = 15;
 
 // What a trial gives beside its run file and the lent tally: 0 or the number of its refusal, and how many bytes the run file has.
 pub struct Answer {
@@ -37,31 +40,47 @@ pub struct Tried {
     pub tally: Tally,
 }
 
-// Whether the address of a node below n is neither below n nor 63.
-fn has_stray_address(users: Users, n: u8) -> bool
-    requires { ⌜ n ≤ 63 ⌝ }
-    ensures { λ r. ⌜ r ≡ some (strayAddress (usersOf users) n) n ⌝ }
-{
-    let address = users.address;
-    let mut k: u8 = 0;
-    while k < n {
-        if !record::is_address(n, address[k as usize]) {
-            return true;
-        }
-        k += 1;
-    }
-    false
+// Whether the address of some node is neither below n nor 63, and whether that of some node is its own number.
+struct Addresses {
+    stray: bool,
+    own: bool,
 }
 
-// What a trial is refused by: 1, then 5, then 11.
+// Looks at the addresses of the nodes below n.
+fn look_at(users: Users, n: u8) -> Addresses
+    requires { ⌜ n ≤ 63 ⌝ }
+    ensures { λ r. ⌜ r .stray ≡ some (strayAddress (usersOf users) n) n ⌝ }
+    ensures { λ r. ⌜ r .own ≡ some (ownAddress (usersOf users)) n ⌝ }
+{
+    let address = users.address;
+    let mut stray = false;
+    let mut own = false;
+    let mut k: u8 = 0;
+    while k < n {
+        let to = address[k as usize];
+        stray = bools::either(!record::is_address(n, to), stray);
+        own = bools::either(record::is_own(k, to), own);
+        k += 1;
+    }
+    Addresses {
+        stray: stray,
+        own: own,
+    }
+}
+
+// What a trial is refused by: 1, then 5 for all nodes, then 15 for all nodes, then 11.
 fn number_of(users: Users, n: u8, actions: u16) -> u8
     ensures { λ r. ⌜ r ≡ trialNumber (usersOf users) n actions ⌝ }
 {
     if !runfile::is_size(n) {
         return WRONG_SIZE;
     }
-    if has_stray_address(users, n) {
+    let found = look_at(users, n);
+    if found.stray {
         return WRONG_ADDRESS;
+    }
+    if found.own {
+        return TO_ITSELF;
     }
     if actions == 0 {
         return WRONG_COUNT;

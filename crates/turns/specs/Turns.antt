@@ -21,10 +21,9 @@ use Rattle.charts.specs.Modes.{isAnswering, isSpurious}
 use Rattle.charts.specs.Signals.{isChecked}
 use Rattle.charts.specs.State.{some, lowest, isEmpty}
 use Rattle.charts.specs.View.{freshNode, mark, view, Sized}
-use Rattle.charts.specs.Records.{isAddress}
 use Rattle.charts.specs.Demand.{history}
 use Rattle.charts.specs.Asking.{ofNode}
-use Rattle.charts.specs.Trials.{requestBy, delivers, acts, isOver, least, isCarried, heardAfter, wonBy, Load, loadAfter, trial, tallyOf}
+use Rattle.charts.specs.Trials.{requestBy, delivers, acts, isOver, least, isCarried, heardAfter, wonBy, Load, loadAfter, trial, Sends, tallyOf}
 
 -- the number of node k in an array
 abbrev pub at : List ℕ → ℕ → ℕ
@@ -160,11 +159,11 @@ loadIn b left heard filled made = record { state = view b; kept = keptOf left he
 abbrev pub tallyAfter : (ℕ → User) → ℕ → ℕ → Tally
 tallyAfter us n k = tallyOf (history n (trial us n k))
 
--- settings that are not refused by 1 or 5
+-- settings that are not refused by 1, 5 or 15
 pub record Allowed (us : ℕ → User) (n : ℕ) : Type 0 where
   pub two : 2 ≤ n
   pub small : n ≤ 63
-  pub fine : (k : ℕ) → k < n → isAddress n (us k .address) ≡ true
+  pub fine : Sends us n
 
 -- such a trial after k actions; the marks of full buffers and of Spurious holders are the records'
 pub record Stands (us : ℕ → User) (k : ℕ) (b : Bus) (left heard filled made : List ℕ) (t : Tally) : Type 0 where

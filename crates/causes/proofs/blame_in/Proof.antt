@@ -112,6 +112,12 @@ enum-told-13 c = search needs
 nowhere-requires-9 : tie.Need-nowhere-requires-9
 nowhere-requires-9 c κs = search needs
 
+enum-told-14 : tie.Need-enum-told-14
+enum-told-14 c = search needs
+
+nowhere-requires-10 : tie.Need-nowhere-requires-10
+nowhere-requires-10 c κs = search needs
+
 enum-known-fault : tie.Need-enum-known-fault
 enum-known-fault c = search needs
 
@@ -181,7 +187,11 @@ returns-13 c = (rw (c .before .enum-told13 .given .1) (c .nowhere9 .ensures), rw
 
 returns-14 : tie.Need-returns-14
 unfolding blameIn
-returns-14 c = (rw (c .before .before .before .before .before .fault .given .1, ← c .before .before .before .parse-line .ensures, ← c .before .before .refusal .ensures, ← c .before .statement-in .ensures .0) (c .at-span5 .ensures), rw (c .at-span5 .ensures) (c .before .statement-in .ensures .1))
+returns-14 c = (rw (c .before .enum-told14 .given .1) (c .nowhere10 .ensures), rw (c .nowhere10 .ensures) ((omega arith, omega arith)))
+
+returns-15 : tie.Need-returns-15
+unfolding blameIn
+returns-15 c = (rw (c .before .before .before .before .before .fault .given .1, ← c .before .before .before .parse-line .ensures, ← c .before .before .refusal .ensures, ← c .before .statement-in .ensures .0) (c .at-span5 .ensures), rw (c .at-span5 .ensures) (c .before .statement-in .ensures .1))
 
 pub blame-in-spec : {M : Type 1} → statement M
 blame-in-spec =
@@ -223,6 +233,8 @@ blame-in-spec =
     nowhere-requires-8
     enum-told-13
     nowhere-requires-9
+    enum-told-14
+    nowhere-requires-10
     enum-known-fault
     parse-line-requires
     refusal-requires
@@ -241,4 +253,5 @@ blame-in-spec =
     returns-11
     returns-12
     returns-13
-    returns-14)
+    returns-14
+    returns-15)

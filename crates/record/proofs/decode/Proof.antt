@@ -47,19 +47,29 @@ returns-5 : tie.Need-returns-5
 unfolding read
 returns-5 c = simp (← c .before .before .before .before .before .before .before .before .before .before .before .before .before .is-kind .ensures, c .before .before .before .before .before .before .before .before .before .before .before .before .if1 .left, ← c .before .before .before .before .before .before .before .before .before .before .before .is-clean .ensures, c .before .before .before .before .before .before .before .before .before .before .if2 .left, ← c .before .before .before .before .before .before .before .before .before .names-node .ensures, ← c .before .before .before .before .before .before .before .both .ensures, c .before .before .before .before .before .before .if3 .left, ← c .before .before .before .before .before .names-address .ensures, ← c .before .before .before .before .is-address .ensures, ← c .before .before .before .both2 .ensures, c .before .before .if4 .left, ← c .before .is-label .ensures, c .if5 .taken)
 
+is-own-requires : tie.Need-is-own-requires
+is-own-requires c κs = search needs
+
 both-requires-3 : tie.Need-both-requires-3
 both-requires-3 c κs = search needs
 
 returns-6 : tie.Need-returns-6
 unfolding read
-returns-6 c = simp (← c .before .before .before .before .before .before .before .before .before .before .before .before .before .before .before .before .before .is-kind .ensures, c .before .before .before .before .before .before .before .before .before .before .before .before .before .before .before .before .if1 .left, ← c .before .before .before .before .before .before .before .before .before .before .before .before .before .before .before .is-clean .ensures, c .before .before .before .before .before .before .before .before .before .before .before .before .before .before .if2 .left, ← c .before .before .before .before .before .before .before .before .before .before .before .before .before .names-node .ensures, ← c .before .before .before .before .before .before .before .before .before .before .before .both .ensures, c .before .before .before .before .before .before .before .before .before .before .if3 .left, ← c .before .before .before .before .before .before .before .before .before .names-address .ensures, ← c .before .before .before .before .before .before .before .before .is-address .ensures, ← c .before .before .before .before .before .before .before .both2 .ensures, c .before .before .before .before .before .before .if4 .left, ← c .before .before .before .before .before .is-label .ensures, c .before .before .before .before .if5 .left, ← c .before .both3 .ensures, c .if6 .taken)
+returns-6 c = simp (← c .before .before .before .before .before .before .before .before .before .before .before .before .before .before .before .before .is-kind .ensures, c .before .before .before .before .before .before .before .before .before .before .before .before .before .before .before .if1 .left, ← c .before .before .before .before .before .before .before .before .before .before .before .before .before .before .is-clean .ensures, c .before .before .before .before .before .before .before .before .before .before .before .before .before .if2 .left, ← c .before .before .before .before .before .before .before .before .before .before .before .before .names-node .ensures, ← c .before .before .before .before .before .before .before .before .before .before .both .ensures, c .before .before .before .before .before .before .before .before .before .if3 .left, ← c .before .before .before .before .before .before .before .before .names-address .ensures, ← c .before .before .before .before .before .before .before .is-address .ensures, ← c .before .before .before .before .before .before .both2 .ensures, c .before .before .before .before .before .if4 .left, ← c .before .before .before .before .is-label .ensures, c .before .before .before .if5 .left, ← c .before .before .is-own .ensures, ← c .before .both3 .ensures, c .if6 .taken)
+
+both-requires-4 : tie.Need-both-requires-4
+both-requires-4 c κs = search needs
+
+returns-7 : tie.Need-returns-7
+unfolding read
+returns-7 c = simp (← c .before .before .before .before .before .before .before .before .before .before .before .before .before .before .before .before .before .before .before .before .is-kind .ensures, c .before .before .before .before .before .before .before .before .before .before .before .before .before .before .before .before .before .before .before .if1 .left, ← c .before .before .before .before .before .before .before .before .before .before .before .before .before .before .before .before .before .before .is-clean .ensures, c .before .before .before .before .before .before .before .before .before .before .before .before .before .before .before .before .before .if2 .left, ← c .before .before .before .before .before .before .before .before .before .before .before .before .before .before .before .before .names-node .ensures, ← c .before .before .before .before .before .before .before .before .before .before .before .before .before .before .both .ensures, c .before .before .before .before .before .before .before .before .before .before .before .before .before .if3 .left, ← c .before .before .before .before .before .before .before .before .before .before .before .before .names-address .ensures, ← c .before .before .before .before .before .before .before .before .before .before .before .is-address .ensures, ← c .before .before .before .before .before .before .before .before .before .before .both2 .ensures, c .before .before .before .before .before .before .before .before .before .if4 .left, ← c .before .before .before .before .before .before .before .before .is-label .ensures, c .before .before .before .before .before .before .before .if5 .left, ← c .before .before .before .before .before .before .is-own .ensures, ← c .before .before .before .before .before .both3 .ensures, c .before .before .before .before .if6 .left, ← c .before .both4 .ensures, c .if7 .taken)
 
 move-of-requires : tie.Need-move-of-requires
 move-of-requires c κs = search needs
 
-returns-7 : tie.Need-returns-7
+returns-8 : tie.Need-returns-8
 unfolding read
-returns-7 c = simp (← c .before .before .before .before .before .before .before .before .before .before .before .before .before .before .before .before .before .before .is-kind .ensures, c .before .before .before .before .before .before .before .before .before .before .before .before .before .before .before .before .before .if1 .left, ← c .before .before .before .before .before .before .before .before .before .before .before .before .before .before .before .before .is-clean .ensures, c .before .before .before .before .before .before .before .before .before .before .before .before .before .before .before .if2 .left, ← c .before .before .before .before .before .before .before .before .before .before .before .before .before .before .names-node .ensures, ← c .before .before .before .before .before .before .before .before .before .before .before .before .both .ensures, c .before .before .before .before .before .before .before .before .before .before .before .if3 .left, ← c .before .before .before .before .before .before .before .before .before .before .names-address .ensures, ← c .before .before .before .before .before .before .before .before .before .is-address .ensures, ← c .before .before .before .before .before .before .before .before .both2 .ensures, c .before .before .before .before .before .before .before .if4 .left, ← c .before .before .before .before .before .before .is-label .ensures, c .before .before .before .before .before .if5 .left, ← c .before .before .both3 .ensures, c .before .if6 .left, c .move-of .ensures)
+returns-8 c = simp (← c .before .before .before .before .before .before .before .before .before .before .before .before .before .before .before .before .before .before .before .before .before .is-kind .ensures, c .before .before .before .before .before .before .before .before .before .before .before .before .before .before .before .before .before .before .before .before .if1 .left, ← c .before .before .before .before .before .before .before .before .before .before .before .before .before .before .before .before .before .before .before .is-clean .ensures, c .before .before .before .before .before .before .before .before .before .before .before .before .before .before .before .before .before .before .if2 .left, ← c .before .before .before .before .before .before .before .before .before .before .before .before .before .before .before .before .before .names-node .ensures, ← c .before .before .before .before .before .before .before .before .before .before .before .before .before .before .before .both .ensures, c .before .before .before .before .before .before .before .before .before .before .before .before .before .before .if3 .left, ← c .before .before .before .before .before .before .before .before .before .before .before .before .before .names-address .ensures, ← c .before .before .before .before .before .before .before .before .before .before .before .before .is-address .ensures, ← c .before .before .before .before .before .before .before .before .before .before .before .both2 .ensures, c .before .before .before .before .before .before .before .before .before .before .if4 .left, ← c .before .before .before .before .before .before .before .before .before .is-label .ensures, c .before .before .before .before .before .before .before .before .if5 .left, ← c .before .before .before .before .before .before .before .is-own .ensures, ← c .before .before .before .before .before .before .both3 .ensures, c .before .before .before .before .before .if6 .left, ← c .before .before .both4 .ensures, c .before .if7 .left, c .move-of .ensures)
 
 pub decode-spec : {M : Type 1} → statement M
 decode-spec =
@@ -78,7 +88,10 @@ decode-spec =
     returns-4
     is-label-requires
     returns-5
+    is-own-requires
     both-requires-3
     returns-6
+    both-requires-4
+    returns-7
     move-of-requires
-    returns-7)
+    returns-8)

@@ -68,11 +68,11 @@ put-said-requires c κs = search needs
 enum-known-cause-4 : tie.Need-enum-known-cause-4
 enum-known-cause-4 c = search needs
 
-slice-aggregate-put-none : tie.Need-slice-aggregate-put-none
-slice-aggregate-put-none c = search needs
+slice-aggregate-put-said-with : tie.Need-slice-aggregate-put-said-with
+slice-aggregate-put-said-with c = search needs
 
-put-none-requires : tie.Need-put-none-requires
-put-none-requires c κs = search needs
+put-said-with-requires : tie.Need-put-said-with-requires
+put-said-with-requires c κs = search needs
 
 slice-aggregate-put-word-3 : tie.Need-slice-aggregate-put-word-3
 slice-aggregate-put-word-3 c = search needs
@@ -89,11 +89,11 @@ put-u8-requires c κs = search needs
 enum-known-cause-5 : tie.Need-enum-known-cause-5
 enum-known-cause-5 c = search needs
 
-slice-aggregate-put-none-2 : tie.Need-slice-aggregate-put-none-2
-slice-aggregate-put-none-2 c = search needs
+slice-aggregate-put-said-with-2 : tie.Need-slice-aggregate-put-said-with-2
+slice-aggregate-put-said-with-2 c = search needs
 
-put-none-requires-2 : tie.Need-put-none-requires-2
-put-none-requires-2 c κs = search needs
+put-said-with-requires-2 : tie.Need-put-said-with-requires-2
+put-said-with-requires-2 c κs = search needs
 
 slice-aggregate-put-word-4 : tie.Need-slice-aggregate-put-word-4
 slice-aggregate-put-word-4 c = search needs
@@ -116,11 +116,11 @@ put-word-requires-5 c κs = search needs
 enum-known-cause-6 : tie.Need-enum-known-cause-6
 enum-known-cause-6 c = search needs
 
-slice-aggregate-put-none-3 : tie.Need-slice-aggregate-put-none-3
-slice-aggregate-put-none-3 c = search needs
+slice-aggregate-put-said-with-3 : tie.Need-slice-aggregate-put-said-with-3
+slice-aggregate-put-said-with-3 c = search needs
 
-put-none-requires-3 : tie.Need-put-none-requires-3
-put-none-requires-3 c κs = search needs
+put-said-with-requires-3 : tie.Need-put-said-with-requires-3
+put-said-with-requires-3 c κs = search needs
 
 slice-aggregate-put-word-6 : tie.Need-slice-aggregate-put-word-6
 slice-aggregate-put-word-6 c = search needs
@@ -131,17 +131,32 @@ put-word-requires-6 c κs = search needs
 enum-known-cause-7 : tie.Need-enum-known-cause-7
 enum-known-cause-7 c = search needs
 
-slice-aggregate-put-none-4 : tie.Need-slice-aggregate-put-none-4
-slice-aggregate-put-none-4 c = search needs
+slice-aggregate-put-said-with-4 : tie.Need-slice-aggregate-put-said-with-4
+slice-aggregate-put-said-with-4 c = search needs
 
-put-none-requires-4 : tie.Need-put-none-requires-4
-put-none-requires-4 c κs = search needs
+put-said-with-requires-4 : tie.Need-put-said-with-requires-4
+put-said-with-requires-4 c κs = search needs
 
 slice-aggregate-put-word-7 : tie.Need-slice-aggregate-put-word-7
 slice-aggregate-put-word-7 c = search needs
 
 put-word-requires-7 : tie.Need-put-word-requires-7
 put-word-requires-7 c κs = search needs
+
+enum-known-cause-8 : tie.Need-enum-known-cause-8
+enum-known-cause-8 c = search needs
+
+slice-aggregate-put-said-with-5 : tie.Need-slice-aggregate-put-said-with-5
+slice-aggregate-put-said-with-5 c = search needs
+
+put-said-with-requires-5 : tie.Need-put-said-with-requires-5
+put-said-with-requires-5 c κs = search needs
+
+slice-aggregate-put-word-8 : tie.Need-slice-aggregate-put-word-8
+slice-aggregate-put-word-8 c = search needs
+
+put-word-requires-8 : tie.Need-put-word-requires-8
+put-word-requires-8 c κs = search needs
 
 enum-told-4 : tie.Need-enum-told-4
 enum-told-4 c = search needs
@@ -205,42 +220,49 @@ same-length-6 c = search needs
 
 returns-7 : tie.Need-returns-7
 unfolding causeWords
-returns-7 c = (omega arith, rw (c .before .before .before .before .before .before .before .before .before .before .before .before .before .before .before .before .cause4 .given .1, ← c .before .before .before .last-of .ensures) (and-then (c .before .before .before .before .before .before .before .before .before .before .before .before .put-none .ensures .1) (and-then (c .before .before .before .before .before .before .before .put-word3 .ensures) (c .before .before .put-u8 .ensures .1))))
+returns-7 c = (omega arith, rw (c .before .before .before .before .before .before .before .before .before .before .before .before .before .before .before .before .cause4 .given .1, ← c .before .before .before .last-of .ensures) (and-then (c .before .before .before .before .before .before .before .before .before .before .before .before .put-said-with .ensures .1) (and-then (c .before .before .before .before .before .before .before .put-word3 .ensures) (c .before .before .put-u8 .ensures .1))))
 
 same-length-7 : tie.Need-same-length-7
 same-length-7 c = search needs
 
 returns-8 : tie.Need-returns-8
 unfolding causeWords
-returns-8 c = (omega arith, rw (c .before .before .before .before .before .before .before .before .before .before .before .before .before .before .before .before .before .before .before .before .before .cause5 .given .1, ← c .before .before .before .before .before .before .before .before .last-of2 .ensures) (and-then (c .before .before .before .before .before .before .before .before .before .before .before .before .before .before .before .before .before .put-none2 .ensures .1) (and-then (c .before .before .before .before .before .before .before .before .before .before .before .before .put-word4 .ensures) (and-then (c .before .before .before .before .before .before .before .put-u82 .ensures .1) (c .before .before .put-word5 .ensures)))))
+returns-8 c = (omega arith, rw (c .before .before .before .before .before .before .before .before .before .before .before .before .before .before .before .before .before .before .before .before .before .cause5 .given .1, ← c .before .before .before .before .before .before .before .before .last-of2 .ensures) (and-then (c .before .before .before .before .before .before .before .before .before .before .before .before .before .before .before .before .before .put-said-with2 .ensures .1) (and-then (c .before .before .before .before .before .before .before .before .before .before .before .before .put-word4 .ensures) (and-then (c .before .before .before .before .before .before .before .put-u82 .ensures .1) (c .before .before .put-word5 .ensures)))))
 
 same-length-8 : tie.Need-same-length-8
 same-length-8 c = search needs
 
 returns-9 : tie.Need-returns-9
 unfolding causeWords
-returns-9 c = (omega arith, rw (c .before .before .before .before .before .before .before .before .before .before .before .cause6 .given .1) (and-then (c .before .before .before .before .before .before .before .put-none3 .ensures .1) (c .before .before .put-word6 .ensures)))
+returns-9 c = (omega arith, rw (c .before .before .before .before .before .before .before .before .before .before .before .cause6 .given .1) (and-then (c .before .before .before .before .before .before .before .put-said-with3 .ensures .1) (c .before .before .put-word6 .ensures)))
 
 same-length-9 : tie.Need-same-length-9
 same-length-9 c = search needs
 
 returns-10 : tie.Need-returns-10
 unfolding causeWords
-returns-10 c = (omega arith, rw (c .before .before .before .before .before .before .before .before .before .before .before .cause7 .given .1) (and-then (c .before .before .before .before .before .before .before .put-none4 .ensures .1) (c .before .before .put-word7 .ensures)))
+returns-10 c = (omega arith, rw (c .before .before .before .before .before .before .before .before .before .before .before .cause7 .given .1) (and-then (c .before .before .before .before .before .before .before .put-said-with4 .ensures .1) (c .before .before .put-word7 .ensures)))
 
 same-length-10 : tie.Need-same-length-10
 same-length-10 c = search needs
 
 returns-11 : tie.Need-returns-11
 unfolding causeWords
-returns-11 c = (omega arith, rw (c .before .before .before .before .before .enum-told4 .given .1) (c .before .before .put-said2 .ensures .1))
+returns-11 c = (omega arith, rw (c .before .before .before .before .before .before .before .before .before .before .before .cause8 .given .1) (and-then (c .before .before .before .before .before .before .before .put-said-with5 .ensures .1) (c .before .before .put-word8 .ensures)))
 
 same-length-11 : tie.Need-same-length-11
 same-length-11 c = search needs
 
 returns-12 : tie.Need-returns-12
 unfolding causeWords
-returns-12 c = (omega arith, rw (c .before .before .before .before .before .enum-told5 .given .1) (c .before .before .put-said3 .ensures .1))
+returns-12 c = (omega arith, rw (c .before .before .before .before .before .enum-told4 .given .1) (c .before .before .put-said2 .ensures .1))
+
+same-length-12 : tie.Need-same-length-12
+same-length-12 c = search needs
+
+returns-13 : tie.Need-returns-13
+unfolding causeWords
+returns-13 c = (omega arith, rw (c .before .before .before .before .before .enum-told5 .given .1) (c .before .before .put-said3 .ensures .1))
 
 pub put-cause-spec : {M : Type 1} → statement M
 put-cause-spec =
@@ -267,15 +289,15 @@ put-cause-spec =
     slice-aggregate-put-said
     put-said-requires
     enum-known-cause-4
-    slice-aggregate-put-none
-    put-none-requires
+    slice-aggregate-put-said-with
+    put-said-with-requires
     slice-aggregate-put-word-3
     put-word-requires-3
     last-of-requires
     put-u8-requires
     enum-known-cause-5
-    slice-aggregate-put-none-2
-    put-none-requires-2
+    slice-aggregate-put-said-with-2
+    put-said-with-requires-2
     slice-aggregate-put-word-4
     put-word-requires-4
     last-of-requires-2
@@ -283,15 +305,20 @@ put-cause-spec =
     slice-aggregate-put-word-5
     put-word-requires-5
     enum-known-cause-6
-    slice-aggregate-put-none-3
-    put-none-requires-3
+    slice-aggregate-put-said-with-3
+    put-said-with-requires-3
     slice-aggregate-put-word-6
     put-word-requires-6
     enum-known-cause-7
-    slice-aggregate-put-none-4
-    put-none-requires-4
+    slice-aggregate-put-said-with-4
+    put-said-with-requires-4
     slice-aggregate-put-word-7
     put-word-requires-7
+    enum-known-cause-8
+    slice-aggregate-put-said-with-5
+    put-said-with-requires-5
+    slice-aggregate-put-word-8
+    put-word-requires-8
     enum-told-4
     slice-aggregate-put-said-2
     put-said-requires-2
@@ -320,4 +347,6 @@ put-cause-spec =
     same-length-10
     returns-11
     same-length-11
-    returns-12)
+    returns-12
+    same-length-12
+    returns-13)

@@ -122,14 +122,23 @@ slice-aggregate-put-word-13 c = search needs
 put-word-requires-13 : tie.Need-put-word-requires-13
 put-word-requires-13 c κs = search needs
 
-enum-known-fault : tie.Need-enum-known-fault
-enum-known-fault c = search needs
+enum-told-14 : tie.Need-enum-told-14
+enum-told-14 c = search needs
 
 slice-aggregate-put-word-14 : tie.Need-slice-aggregate-put-word-14
 slice-aggregate-put-word-14 c = search needs
 
 put-word-requires-14 : tie.Need-put-word-requires-14
 put-word-requires-14 c κs = search needs
+
+enum-known-fault : tie.Need-enum-known-fault
+enum-known-fault c = search needs
+
+slice-aggregate-put-word-15 : tie.Need-slice-aggregate-put-word-15
+slice-aggregate-put-word-15 c = search needs
+
+put-word-requires-15 : tie.Need-put-word-requires-15
+put-word-requires-15 c κs = search needs
 
 put-u8-requires : tie.Need-put-u8-requires
 put-u8-requires c κs = search needs
@@ -230,7 +239,14 @@ same-length-14 c = search needs
 
 returns-14 : tie.Need-returns-14
 unfolding faultWords
-returns-14 c = (omega arith, rw (c .before .before .before .before .before .before .before .before .before .before .fault .given .1) (and-then (c .before .before .before .before .before .before .put-word14 .ensures) (c .before .before .put-u8 .ensures .1)))
+returns-14 c = (omega arith, rw (c .before .before .before .before .before .enum-told14 .given .1) (c .before .before .put-word14 .ensures))
+
+same-length-15 : tie.Need-same-length-15
+same-length-15 c = search needs
+
+returns-15 : tie.Need-returns-15
+unfolding faultWords
+returns-15 c = (omega arith, rw (c .before .before .before .before .before .before .before .before .before .before .fault .given .1) (and-then (c .before .before .before .before .before .before .put-word15 .ensures) (c .before .before .put-u8 .ensures .1)))
 
 pub put-fault-words-spec : {M : Type 1} → statement M
 put-fault-words-spec =
@@ -275,9 +291,12 @@ put-fault-words-spec =
     enum-told-13
     slice-aggregate-put-word-13
     put-word-requires-13
-    enum-known-fault
+    enum-told-14
     slice-aggregate-put-word-14
     put-word-requires-14
+    enum-known-fault
+    slice-aggregate-put-word-15
+    put-word-requires-15
     put-u8-requires
     same-length
     returns
@@ -306,4 +325,6 @@ put-fault-words-spec =
     same-length-13
     returns-13
     same-length-14
-    returns-14)
+    returns-14
+    same-length-15
+    returns-15)
