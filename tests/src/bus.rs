@@ -71,8 +71,8 @@ impl Bus {
         }
     }
 
-    /// One step on a state handed in: "A step looks at 12, then 2 to 7", with 13 after 5. A refused
-    /// one changes nothing.
+    /// One step on a state handed in: "A step looks at 12, then 2 to 7", with 13 after 5 and 15 after
+    /// 13. A refused one changes nothing.
     pub fn step(&mut self, record: &Record) -> Outcome {
         if !self.is_state() {
             return Err(Refusal::State);
@@ -86,7 +86,7 @@ impl Bus {
         self.act(action)
     }
 
-    /// The action itself, or 7.
+    /// The action itself, which has passed all but 7; or 7.
     pub fn act(&mut self, action: Action) -> Outcome {
         match action {
             Action::Request { node, packet } => self.request(node, packet),
@@ -400,6 +400,6 @@ impl Bus {
 
     /// "*Open*: it would be accepted as the next action." Found by trying it.
     pub fn is_open(&self, action: Action) -> bool {
-        self.clone().act(action).is_ok()
+        self.clone().play(&action.into()).is_ok()
     }
 }

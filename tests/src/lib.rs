@@ -1,10 +1,10 @@
 //! The model written apart: an independent reference model of the IEEE 1394 rehearsal bench,
-//! written from document 01, requests 1 to 9 of document 02 and the readings of them, and from
+//! written from document 01, requests 1 to 10 of document 02 and the readings of them, and from
 //! nothing else.
 //!
 //! The model itself:
 //! - [`bus`]: packets, signals, node modes, the reception charts, the twelve actions, refusals 2 to 7,
-//!   12 and 13;
+//!   12, 13 and 15;
 //! - [`table`]: the reception charts as one table, printed;
 //! - [`counts`]: how many sequences of its classes leave a node in which mode, printed;
 //! - [`runfile`]: blocks of 512 bytes, read and written, and their sums;

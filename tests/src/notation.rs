@@ -139,6 +139,7 @@ fn refused(refusal: Refusal, record: &Record, n: u8, line: &[u8]) -> Flaw {
         Refusal::Node => return Flaw::no_node(node, n, line),
         Refusal::Address => return Flaw::no_address(address, n, line),
         Refusal::Label => format!("no label {label}, labels are 0 to 63"),
+        Refusal::ToItself => return Flaw::to_itself(node, line),
         Refusal::AckOrHold => format!("no acknowledgement {ack}, they are 0 to 15"),
         _ => unreachable!("a line has only the fields that its action names"),
     };

@@ -29,6 +29,7 @@ pub enum Fault {
     RepeatOfZero,
     NoNodesLine,
     NodesAgain,
+    NoUserLine,
     NoAction,
     TooManyActions,
     NoFindLine,
@@ -38,7 +39,7 @@ pub enum Fault {
 }
 
 /// The words of each fault; those of document 01's numbers stand in [`refusal_words`].
-const WORDS: [(Fault, &str); 13] = [
+const WORDS: [(Fault, &str); 14] = [
     (Fault::LongLine, "line over 255 bytes"),
     (Fault::UnknownWord, "unknown word"),
     (Fault::MissingField, "missing field"),
@@ -48,6 +49,7 @@ const WORDS: [(Fault, &str); 13] = [
     (Fault::RepeatOfZero, "repeat of 0"),
     (Fault::NoNodesLine, "no nodes line"),
     (Fault::NodesAgain, "a second nodes line"),
+    (Fault::NoUserLine, "no user 0 line"),
     (Fault::NoAction, "no action"),
     (Fault::TooManyActions, "too many actions"),
     (Fault::NoFindLine, "no find line"),
@@ -105,6 +107,11 @@ impl Flaw {
     pub fn no_address(address: u8, n: u8, line: &[u8]) -> Flaw {
         let why = format!("no address {address}, addresses are 0 to {} and all", last(n));
         Flaw::refused(Refusal::Address, line, &why)
+    }
+
+    /// By 15: a line has this node as its address, too.
+    pub fn to_itself(node: u8, line: &[u8]) -> Flaw {
+        Flaw::refused(Refusal::ToItself, line, &format!("node {node} would send to itself"))
     }
 }
 

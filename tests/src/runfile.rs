@@ -157,7 +157,7 @@ pub fn write_block(
 }
 
 /// "The writer looks at 8, 1, 11, then 2 to 6 for each action", and at 13 "after 5, by the writer
-/// too".
+/// too". A request to the node itself "the writer does not write".
 fn writable<'a>(
     buffer: &'a mut [u8],
     n: u8,

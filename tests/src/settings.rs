@@ -2,7 +2,7 @@
 
 use std::io::{self, BufRead};
 
-use crate::bus::{is_address, MOST_NODES};
+use crate::bus::{is_address, Refusal, MOST_NODES};
 use crate::plain::{self, Complaint, Fault, Fields, Flaw, Nodes, Written};
 use crate::trial::{self, Settings, Tally, User};
 
@@ -90,24 +90,31 @@ impl plain::Text for Text {
         Ok(())
     }
 
-    /// "`actions 0`, which the trial would refuse by 11, or no `actions` line: told at the text's end"
+    /// What the trial would refuse for what was not said is "told at the text's end": by 15 without a
+    /// line for user 0, "since what is not said is 0", by 11 for "`actions 0` […], or no `actions` line".
     fn end(&self) -> Result<Settings, Flaw> {
         let n = self.nodes.said()?;
-        match self.actions {
-            0 => Err(Fault::NoAction.into()),
-            actions => Ok(Settings { n, users: self.users, actions }),
+        let settings = Settings { n, users: self.users, actions: self.actions };
+        match settings.look() {
+            Ok(_) => Ok(settings),
+            Err(Refusal::ToItself) => Err(Fault::NoUserLine.into()),
+            Err(Refusal::BlockContent) => Err(Fault::NoAction.into()),
+            Err(_) => unreachable!("each line was looked at by 1, 4 and 5"),
         }
     }
 }
 
-/// The line of a user by 4, then by 5.
+/// The line of a user by 4, then by 5, then by 15.
 fn look(node: u8, user: &User, n: u8, line: &[u8]) -> Result<(), Flaw> {
     if node >= n {
         return Err(Flaw::no_node(node, n, line));
     }
-    match is_address(user.address, n) {
-        true => Ok(()),
-        false => Err(Flaw::no_address(user.address, n, line)),
+    if !is_address(user.address, n) {
+        return Err(Flaw::no_address(user.address, n, line));
+    }
+    match user.address == node {
+        true => Err(Flaw::to_itself(node, line)),
+        false => Ok(()),
     }
 }
 

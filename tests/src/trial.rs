@@ -37,7 +37,7 @@ pub struct Settings {
 }
 
 impl Settings {
-    /// Of all nodes nothing is said.
+    /// Of all nodes nothing is said. So all send to node 0, and node 0 has still to send elsewhere.
     pub fn new(n: u8, actions: u16) -> Settings {
         Settings { n, users: [User::default(); MOST_NODES], actions }
     }
@@ -46,11 +46,16 @@ impl Settings {
         &self.users[usize::from(node)]
     }
 
-    /// "A trial is refused by the first of these that holds": 1, 5, 11. The fresh bus if none does.
+    /// "A trial is refused by the first of these that holds": 1, 5, 15, 11. "So 5 is looked at for all
+    /// nodes before 15 is for any." The fresh bus if none holds.
     pub fn look(&self) -> Result<Bus, Refusal> {
         let bus = Bus::fresh(self.n)?;
-        if (0..self.n).any(|node| !is_address(self.user(node).address, self.n)) {
+        let addresses = || (0..self.n).map(|node| (node, self.user(node).address));
+        if addresses().any(|(_, address)| !is_address(address, self.n)) {
             return Err(Refusal::Address);
+        }
+        if addresses().any(|(node, address)| address == node) {
+            return Err(Refusal::ToItself);
         }
         if self.actions == 0 {
             return Err(Refusal::BlockContent);

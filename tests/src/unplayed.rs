@@ -1,4 +1,4 @@
-//! Run files whose actions are looked at, by 2 to 6 and 13, and not played: what `list` and `sums`
+//! Run files whose actions are looked at, by 2 to 6, 13 and 15, and not played: what `list` and `sums`
 //! have in common.
 
 use std::io::{self, Read, Write};

@@ -60,14 +60,77 @@ fn delivering_goes_to_every_other_node_lowest_first() {
     assert_eq!([0, 1, 2, 3].map(|node| bus.nodes[node].mode), modes);
 }
 
-#[test]
-fn a_packet_to_itself_is_missed() {
-    let mut run = vec![labelled(0, 0, 5, 6, 7), arbitrate(0)];
-    run.extend(packet_of_two());
-    let mut bus = after(2, &run);
+/// Plays out the packet (5, 6), label 7, that this node sends to itself, from this step on: nobody is
+/// told, nobody takes it, and it ends in its miss.
+fn play_out(bus: &mut Bus, node: u8, step: usize) {
+    let n = usize::from(bus.n);
+    let signal = [vec![clock(node)], vec![pass(); n - 1]].concat();
+    assert_eq!(play(bus, &signal.repeat(6 - step)), vec![None; n * (6 - step)]);
+    assert_eq!(bus.nodes[usize::from(node)].mode, Mode::AwaitAck);
     assert_eq!(bus.phase, Phase::Gapping { node: 0 });
-    assert_eq!(play(&mut bus, &[gap(), gap()]), [miss(0, 7), None]);
+    let mut expected = vec![None; n];
+    expected[usize::from(node)] = miss(node, 7);
+    assert_eq!(play(bus, &vec![gap(); n]), expected);
     assert_eq!(bus.phase, Phase::Idle);
+    assert!((0..n).all(|node| bus.nodes[node].mode == Mode::Rest));
+}
+
+/// "A state handed in that already carries such a packet still plays it out": in the buffer of a node
+/// in Rest.
+#[test]
+fn a_packet_to_itself_in_a_buffer_is_missed() {
+    for (n, node) in [(2, 0), (2, 1), (3, 0), (3, 1), (3, 2), (63, 62)] {
+        let mut waiting = Bus::fresh(n).unwrap();
+        waiting.nodes[usize::from(node)].buffer = Some(packet(node, 5, 6, 7));
+        let mut bus = waiting.clone();
+        assert_eq!(play(&mut bus, &[arbitrate(node)]), [said(node, Report::Won)]);
+        play_out(&mut bus, node, 0);
+        // By asking, too.
+        let mut bus = waiting.clone();
+        assert_eq!(play(&mut bus, &[ask(node), decide(node)]), [None, said(node, Report::Won)]);
+        play_out(&mut bus, node, 0);
+        // Another request finds the buffer full, and to itself it is refused before that.
+        let refused = |address| waiting.clone().step(&request(node, address, 0, 0)).unwrap_err();
+        assert_eq!([refused(63).number(), refused(node).number()], [7, 15]);
+    }
+}
+
+/// The same in Sending, at each step.
+#[test]
+fn a_packet_to_itself_being_sent_is_missed() {
+    for (n, node) in [(2, 0), (2, 1), (3, 0), (3, 1), (3, 2)] {
+        for step in 0..=5 {
+            // Its first signals were put out already, and the others are reading.
+            let mut bus = after(n, &[labelled(node, (node + 1) % n, 5, 6, 7), arbitrate(node)]);
+            bus.nodes[usize::from(node)].sending.address = node;
+            let signal = [vec![clock(node)], vec![pass(); usize::from(n) - 1]].concat();
+            play(&mut bus, &signal.repeat(step));
+            assert_eq!(bus.nodes[usize::from(node)].mode, Mode::Sending { step: step as u8 });
+            assert!(bus.is_state());
+            play_out(&mut bus, node, step);
+            // The others are in Rest, and stay there without its Start.
+            let mut bus = Bus { phase: Phase::Busy, ..Bus::fresh(n).unwrap() };
+            bus.holder.set(node);
+            let mode = Mode::Sending { step: step as u8 };
+            let sending = packet(node, 5, 6, 7);
+            bus.nodes[usize::from(node)] = Node { mode, buffer: None, sending };
+            play_out(&mut bus, node, step);
+        }
+    }
+}
+
+/// A reply to the node itself that has begun: the requester hears its Start, and nothing for it.
+#[test]
+fn a_reply_to_itself_is_missed() {
+    let mut bus = after(2, &held());
+    bus.nodes[1].mode = Mode::Sending { step: 0 };
+    bus.nodes[1].sending = packet(1, 5, 6, 7);
+    play_out(&mut bus, 1, 0);
+    assert!(!bus.concatenated);
+    // A request for one is refused, and leaves the node holding the bus.
+    let mut bus = after(2, &held());
+    assert_eq!(bus.step(&request(1, 1, 5, 6)).unwrap_err().number(), 15);
+    assert_eq!(bus, after(2, &held()));
 }
 
 #[test]

@@ -267,7 +267,17 @@ fn number_13() {
     assert_eq!(actions[5], 64, "unchecked");
 }
 
-/// "The writer looks at 8, 1, 11, then 2 to 6 for each action", and at 13 after 5.
+/// "then each action, when its turn comes": 15 ends a file there. A single block gives it back.
+#[test]
+fn number_15() {
+    // The request at 2 is node 1's to all.
+    let wrong = altered(file_of(63), 0, |block| block[14 + 16 * 2 + 2] = 1);
+    assert_eq!(printed_file(&wrong), "nodes 2\n0 1 -\n1 2 0 won\nrefused 2 15\n");
+    let (_, actions) = runfile::read_block(&wrong[..BLOCK]).unwrap();
+    assert_eq!(actions[16 * 2..16 * 2 + 3], [1, 1, 1], "unchecked");
+}
+
+/// "The writer looks at 8, 1, 11, then 2 to 6 for each action", at 13 after 5 and at 15 after 13.
 #[test]
 fn the_writer() {
     let refused = |n: u8, records: &[Record]| {
@@ -287,11 +297,17 @@ fn the_writer() {
     assert_eq!(refused(2, &[pass(), change(2)]), 5);
     assert_eq!(refused(2, &[pass(), labelled(1, 2, 0, 0, 64)]), 5);
     assert_eq!(refused(2, &[pass(), labelled(1, 63, 0, 0, 64)]), 13);
+    assert_eq!(refused(2, &[pass(), labelled(1, 1, 0, 0, 64)]), 13);
+    // "the writer does not write one", whatever comes before it.
+    assert_eq!(refused(2, &[pass(), request(0, 0, 0, 0)]), 15);
+    assert_eq!(refused(2, &[&held()[..], &[request(1, 1, 0, 0)]].concat()), 15);
+    assert_eq!(refused(63, &[request(62, 62, 0, 0)]), 15);
     assert_eq!(refused(2, &[pass(), Record { label: 1, ..clock(1) }]), 3);
     assert_eq!(refused(2, &[pass(), respond(1, 16, 0)]), 6);
     assert_eq!(refused(2, &[clock(2), wrong]), 4, "each action in its turn");
     let no_label = labelled(1, 63, 0, 0, 255);
     assert_eq!(refused(2, &[no_label, clock(2)]), 13, "each action in its turn");
+    assert_eq!(refused(2, &[request(0, 0, 0, 0), no_label]), 15, "each action in its turn");
     // 7 is not looked at.
     let mut buffer = [0xee; BLOCK];
     assert_eq!(runfile::write_block(&mut buffer, 0, 2, &[pass(); 31]).0, Ok(()));

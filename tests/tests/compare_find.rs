@@ -46,6 +46,8 @@ fn stand_ins() {
     );
     wrong_find("no-newline", &altered("find", "tr -d '\\n'"), "");
     wrong_find("words", "\"$model\" find 2>&1", "standard error: ");
+    let itself = "\"$model\" find 2>\"$own\"\nsed 's/refused 15/refused 7/' <\"$own\" >&2";
+    wrong_find("itself", itself, "refused 15: request ");
     wrong_find("both", "\"$model\" find || :; echo none", "");
     wrong_find("status", "\"$model\" find; exit 3", "it ended with exit status: 3");
     let wrong_probe = |name: &str, body: &str, part: &str| {

@@ -35,6 +35,7 @@ fn stand_ins() {
     wrong_trial("drops", &with_errors("sed 's/^drops .*/drops 65536/'"), "TRIAL: standard error");
     wrong_trial("short-tally", &with_errors("sed '/^sent/d'"), "TRIAL: standard error");
     wrong_trial("fault", &with_errors("sed 's/no nodes/No nodes/'"), "No nodes line");
+    wrong_trial("itself", &with_errors("sed 's/refused 15/refused 5/'"), "refused 15: user ");
     wrong_trial("cause", &with_errors("sed 's/, at most .*//'"), "TRIAL: standard error");
     wrong_trial("more", "\"$model\" trial; printf x", "TRIAL: standard output");
     wrong_trial("less", "\"$model\" trial | head -c 512", "TRIAL: standard output");

@@ -314,10 +314,12 @@ fn starts_at_once_or_with_won() {
 fn the_longest_way_is_22n() {
     let text = walk::walk(2).unwrap();
     assert!(text.ends_with("longest way of forward actions to Idle 44, bound 46\n"), "{text}");
+    assert!(text.contains("n = 2: 860 states, "), "{text}");
     assert!(text.contains("54 of 350 cells met, 11 of them drops"), "{text}");
     assert!(text.contains("up to 1 Asked at once"), "{text}");
     let text = walk::walk(3).unwrap();
     assert!(text.ends_with("longest way of forward actions to Idle 66, bound 68\n"), "{text}");
+    assert!(text.contains("n = 3: 6736 states, "), "{text}");
     assert!(text.contains("63 of 350 cells met, 15 of them drops"), "{text}");
     assert!(text.contains("up to 2 Asked at once"), "{text}");
 }
@@ -381,5 +383,23 @@ fn every_way_ends_as_it_must() {
             }
             End::Either => (),
         }
+    }
+}
+
+/// Up to an action that is refused the lines are those of the file without it and what comes after.
+#[test]
+fn lines_before_a_refused_action() {
+    for (index, way) in (0..).zip(Way::all()) {
+        let case = way.make(&mut Random::of(4, index));
+        let End::Refused { accepted, number } = case.end else {
+            continue;
+        };
+        if accepted == 0 || matches!(way, Way::Damaged(_)) {
+            continue;
+        }
+        let without = printed_file(&any_file(case.n, &case.records[..accepted]));
+        let lines = without.strip_suffix(&format!("done {accepted}\n")).expect("all are open");
+        let expected = format!("{lines}refused {accepted} {number}\n");
+        assert_eq!(printed_file(&case.bytes), expected, "{way}");
     }
 }

@@ -369,6 +369,30 @@ fn faults_and_their_lines() {
             "nodes 2\nrequest 1 0 5 6 label 256\n",
             "line 2: number too large: \"256\", the label of request, at most 255",
         ),
+        // 15 is "looked at after 13".
+        (
+            "nodes 2\npass\nrequest 0 0 5 6\n",
+            "line 3: refused 15: request 0 0 5 6: node 0 would send to itself",
+        ),
+        (
+            "nodes 2\nrequest 1 1 5 6 label 63 * 2 # to itself\n",
+            "line 2: refused 15: request 1 1 5 6 label 63 * 2: node 1 would send to itself",
+        ),
+        (
+            "nodes 63\nrequest\t0x3E 62 0 0\n",
+            "line 2: refused 15: request 0x3E 62 0 0: node 62 would send to itself",
+        ),
+        (
+            "nodes 2\nrequest 1 1 5 6 label 64\n",
+            "line 2: refused 13: request 1 1 5 6 label 64: no label 64, labels are 0 to 63",
+        ),
+        (
+            "nodes 2\nrequest 63 all 5 6\n",
+            "line 2: refused 4: request 63 all 5 6: no node 63, nodes are 0 to 1",
+        ),
+        ("nodes 2\nrequest 0 0 5 6 7\n", "line 2: extra field: \"7\""),
+        ("nodes 2\nrequest 0 0 5 6 * 0\n", "line 2: repeat of 0"),
+        ("request 0 0 5 6\n", "line 1: no nodes line"),
         ("nodes 2\nrequest 1 0 5 6 label\n", "line 2: missing field: the label of request"),
         ("nodes 2\nrequest 1 0 5 6 label 64 x\n", "line 2: extra field: \"x\""),
         ("nodes 2\nrequest 1 0 5 6 label 64 * 0\n", "line 2: repeat of 0"),
@@ -571,6 +595,7 @@ fn the_statement() {
             " request 8 all\t1 2 label\r0X40 * 2 # 13",
             "13: request 8 all 1 2 label 0X40 * 2: no label 64, labels are 0 to 63",
         ),
+        ("request 0X08\t8 1  2 # 15", "15: request 0X08 8 1  2: node 8 would send to itself"),
         ("respond  0 16 hold", "6: respond  0 16 hold: no acknowledgement 16, they are 0 to 15"),
     ] {
         let expected = format!("line 2: refused {cause}");
@@ -731,7 +756,7 @@ fn listings() {
     assert_eq!(list(&file), text.as_bytes());
     // Only a label that is not 0 is printed.
     assert_eq!(composed(text.replace("1 2\n", "1 2 label 0x0\n")), file);
-    // A listing is not looked at by 7, but by the file's numbers and by 2 to 6 and 13.
+    // A listing is not looked at by 7, but by the file's numbers and by 2 to 6, 13 and 15.
     assert_eq!(list(b""), b"refused 0 8\n");
     assert_eq!(list(&file[..511]), b"refused 0 8\n");
     assert_eq!(list(&[0; BLOCK]), b"refused 0 1\n");
@@ -743,6 +768,9 @@ fn listings() {
     assert_eq!(list(&block), b"nodes 2\npass\nrefused 1 3\n");
     for (record, number) in [
         (labelled(1, 0, 0, 0, 64), 13),
+        (labelled(1, 1, 0, 0, 64), 13),
+        (labelled(1, 1, 0, 0, 63), 15),
+        (request(0, 0, 0, 0), 15),
         (labelled(1, 2, 0, 0, 64), 5),
         (Record { label: 1, ..clock(1) }, 3),
         (Record { hold: 1, ..ask(1) }, 3),
@@ -779,4 +807,15 @@ fn labels_composed_and_listed() {
         );
         assert_eq!(composed(text), file);
     }
+}
+
+/// A run from before request 10 is listed up to its request of a node to itself, and so does not come
+/// back as a shorter one.
+#[test]
+fn the_listing_of_an_older_run() {
+    let listed = String::from_utf8(list(&any_file(2, &older_run()))).expect("plain text");
+    let before = list(&runfile::write_file(2, &older_run()[..42]).expect("the writer takes it"));
+    let before = String::from_utf8(before).expect("plain text");
+    assert_eq!(listed, format!("{before}refused 42 15\n"));
+    assert_eq!(complaint(&listed), ("line 44: unknown word: \"refused\"".into(), 1));
 }

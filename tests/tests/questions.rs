@@ -147,6 +147,7 @@ fn faults_and_their_lines() {
         ("nodes 2\nfind won 0 within 0\nfind won 9 within 9\n", "line 3: a line after find".into()),
         ("nodes 2\nfind won 0 within 0\nclock 9\n", "line 3: a line after find".into()),
         ("nodes 2\nfind won 0 within 0\nrespond 0 16\n", "line 3: a line after find".into()),
+        ("nodes 2\nfind won 0 within 0\nrequest 0 0 5 6\n", "line 3: a line after find".into()),
         ("nodes 2\nfind won 0 within 0\nnodes 64\n", "line 3: a line after find".into()),
         (
             "nodes 2\nfind won 0 within 0\nclock\n",
@@ -157,7 +158,7 @@ fn faults_and_their_lines() {
             "nodes 2\nfind won 0 within 0\nfind\n",
             "line 3: missing field: the report of find".into(),
         ),
-        // 7 is "looked at after 2 to 6 and 13".
+        // 7 is "looked at after 2 to 6, 13 and 15".
         ("nodes 2\n\nclock 1 # no\n", format!("line 3: refused 7: clock 1: {closed}")),
         ("nodes 2\nclock 2\n", "line 2: refused 4: clock 2: no node 2, nodes are 0 to 1".into()),
         (
@@ -171,6 +172,18 @@ fn faults_and_their_lines() {
         (
             "nodes 2\nrespond 0 16\n",
             "line 2: refused 6: respond 0 16: no acknowledgement 16, they are 0 to 15".into(),
+        ),
+        (
+            "nodes 2\nrequest 0 0 5 6\n",
+            "line 2: refused 15: request 0 0 5 6: node 0 would send to itself".into(),
+        ),
+        (
+            "nodes 2\nrequest 1 all 5 6\nrequest 1 1 5 6 * 2\n",
+            "line 3: refused 15: request 1 1 5 6 * 2: node 1 would send to itself".into(),
+        ),
+        (
+            "nodes 2\nrequest 1 all 5 6\nrequest 1 1 5 6 label 64\n",
+            "line 3: refused 13: request 1 1 5 6 label 64: no label 64, labels are 0 to 63".into(),
         ),
         // "or one of its repetitions"
         ("nodes 2\nrequest 0 1 5 6\trequest\n", "line 2: extra field: \"request\"".into()),
@@ -220,7 +233,7 @@ fn faults_and_their_lines() {
         "line 2: line over 255 bytes"
     );
     // All but `line over 255 bytes`; a question cannot have `no action` and `too many actions`.
-    assert_eq!(met.len(), 17, "{met:?}");
+    assert_eq!(met.len(), 18, "{met:?}");
     // The page's own example has its line 9.
     let nine = "nodes 2\n\n\n\n\n\n\n\nfind miss 0 within 7\n";
     assert_eq!(complaint(nine), format!("line 9: refused 14: find miss 0 within 7: {deep}"));

@@ -1,12 +1,13 @@
-//! The thirteen numbers at single steps: their order when several conditions hold, what a refusal
-//! leaves, and 12.
+//! The numbers at single steps, 2 to 7, 12, 13 and 15: their order when several conditions hold, what a
+//! refusal leaves, and 12.
 
 mod common;
 
 use bench_model::bus::{
-    Action, Bus, Check, Head, Marks, Mode, Phase, Reading, Record, Refusal, Report, Reported,
+    Action, Bus, Check, Head, Marks, Mode, Node, Phase, Reading, Record, Refusal, Report, Reported,
     Signal,
 };
+use bench_model::runfile;
 use common::*;
 
 /// What a step on this state says, and that a refusal leaves the state as it was.
@@ -37,6 +38,8 @@ fn examples_of_the_table() {
     assert_eq!(Refusal::BlockOrder.number(), 10);
     assert_eq!(Refusal::BlockContent.number(), 11);
     assert_eq!(refused(&fresh(2), labelled(0, 1, 0, 0, 64)), 13);
+    assert_eq!(Refusal::Route.number(), 14);
+    assert_eq!(refused(&fresh(2), request(0, 0, 0, 0)), 15);
 }
 
 #[test]
@@ -68,9 +71,10 @@ fn in_order_from_12_to_7() {
     assert_eq!(refused(&fresh(2), request), 4);
     assert_eq!(refused(&fresh(2), Record { node: 1, ..request }), 5);
     let full = after(2, &[labelled(1, 0, 0, 0, 5)]);
-    let request = Record { node: 1, address: 0, ..request };
+    let request = Record { node: 1, address: 1, ..request };
     assert_eq!(refused(&full, request), 13);
-    assert_eq!(refused(&full, Record { label: 63, ..request }), 7);
+    assert_eq!(refused(&full, Record { label: 63, ..request }), 15);
+    assert_eq!(refused(&full, Record { label: 63, address: 0, ..request }), 7);
     let respond = Record { kind: 3, node: 2, ack: 16, hold: 2, ..Record::default() };
     assert_eq!(refused(&fresh(2), respond), 4);
     assert_eq!(refused(&fresh(2), Record { node: 1, ..respond }), 6);
@@ -125,7 +129,9 @@ fn fields_that_a_kind_does_not_name() {
         [1, 0, 0, 0, 0, 0, 0], // decide
     ];
     for (kind, names) in (1..).zip(named) {
-        let bare = Record { kind, ..Record::default() };
+        // With address 0 the request would be one of node 0 to itself.
+        let address = if kind == 1 { 63 } else { 0 };
+        let bare = Record { kind, address, ..Record::default() };
         let with_one = [
             Record { node: 1, ..bare },
             Record { address: 1, ..bare },
@@ -157,6 +163,8 @@ fn bytes_5_to_7_of_each_kind() {
             let with = |place: usize| {
                 let mut bytes = [0; 16];
                 (bytes[0], bytes[place]) = (kind, byte);
+                // Not to node 0 itself.
+                bytes[2] = u8::from(kind == 1);
                 Record::from_bytes(&bytes).look(2).err()
             };
             let label = match (kind, byte) {
@@ -183,13 +191,14 @@ fn labels_are_0_to_63() {
     }
 }
 
-/// "13, label over 63, looked at after 5": 2, 3, 4, 5, 13, 6, then 7.
+/// "13, label over 63, looked at after 5": 2, 3, 4, 5, 13, 15, 6, then 7.
 #[test]
 fn a_label_over_63_in_its_place() {
     let wrong = labelled(1, 63, 0, 0, 64);
     for bus in [fresh(2), after(2, &[request(1, 0, 0, 0)]), after(2, &case_b()[..5])] {
         // Open on the first bus but for its label, and not on the others.
         assert_eq!(refused(&bus, wrong), 13);
+        assert_eq!(refused(&bus, Record { address: 1, ..wrong }), 13);
         assert_eq!(refused(&bus, Record { address: 2, ..wrong }), 5);
         assert_eq!(refused(&bus, Record { node: 2, ..wrong }), 4);
         assert_eq!(refused(&bus, Record { zeros: [1, 0], ..wrong }), 3);
@@ -210,13 +219,85 @@ fn addresses_are_below_n_or_63() {
     for n in [2, 10, 62, 63] {
         for address in 0..=255 {
             let right = address < n || address == 63;
-            assert_eq!(request(0, address, 0, 0).look(n).is_ok(), right);
+            let said = request(1, address, 0, 0).look(n);
+            assert_eq!(said == Err(Refusal::Address), !right);
             assert_eq!(change(address).look(n).is_ok(), right);
         }
         for node in 0..=255 {
             assert_eq!(clock(node).look(n).is_ok(), node < n);
         }
     }
+}
+
+/// "15, request to the node itself, looked at after 13": 2, 3, 4, 5, 13, 15, 6, then 7. Every node and
+/// every address that a record can have.
+#[test]
+fn nodes_do_not_send_to_themselves() {
+    for n in [2, 3, 62, 63] {
+        for (node, address) in (0..=255).flat_map(|node| (0..=255).map(move |to| (node, to))) {
+            let refusal = match (node < n, address < n || address == 63) {
+                (false, _) => Some(Refusal::Node),
+                (true, false) => Some(Refusal::Address),
+                (true, true) => (address == node).then_some(Refusal::ToItself),
+            };
+            assert_eq!(
+                request(node, address, 5, 6).look(n).err(),
+                refusal,
+                "{n}: {node} {address}"
+            );
+        }
+    }
+    // It is about requests: a field that a kind does not name is 0, as node 0's number is.
+    for kind in 2..=12 {
+        let bare = Record { kind, ..Record::default() };
+        assert!(bare.look(2).is_ok(), "kind {kind}");
+    }
+}
+
+/// The numbers that hold of a request to the node itself beside 15, one at a time. 5 alone does not: an
+/// address that there is not is no node's; nor does 6, whose fields a request does not name.
+#[test]
+fn a_request_to_itself_in_its_place() {
+    let wrong = labelled(1, 1, 5, 6, 63);
+    let waits = [request(1, 0, 0, 0)];
+    for (bus, open) in [
+        (fresh(2), true),
+        (after(2, &held()), true),
+        (after(2, &waits), false),
+        (after(2, &[waits[0], ask(1)]), false),
+        (after(2, &case_b()[..5]), false),
+        (after(2, &case_b()[..15]), false),
+    ] {
+        assert_eq!(bus.clone().step(&Record { address: 0, ..wrong }).is_ok(), open);
+        assert_eq!(refused(&bus, wrong), 15);
+        assert_eq!(refused(&bus, Record { label: 64, ..wrong }), 13);
+        assert_eq!(refused(&bus, Record { node: 2, address: 2, ..wrong }), 4);
+        assert_eq!(refused(&bus, Record { node: 63, address: 63, ..wrong }), 4);
+        assert_eq!(refused(&bus, Record { zeros: [0, 1], ..wrong }), 3);
+        assert_eq!(refused(&bus, Record { ack: 16, ..wrong }), 3);
+        assert_eq!(refused(&bus, Record { hold: 2, ..wrong }), 3);
+        assert_eq!(refused(&bus, Record { kind: 13, ..wrong }), 2);
+        assert_eq!(refused(&Bus { n: 64, ..bus }, wrong), 12);
+    }
+}
+
+/// "A run that still has one is played up to it, prints its lines as before, and stops there": a whole
+/// file from before, with one in the middle of its second block.
+#[test]
+fn an_older_run_stops_at_it() {
+    let run = older_run();
+    assert_eq!((run[42], run.len()), (labelled(0, 0, 8, 9, 5), 58));
+    let before = printed(2, &run[..42]);
+    let lines = before.strip_suffix("done 42\n").expect("open up to there");
+    assert!(lines.ends_with("\n37 4 0 sent 0\n38 5 1 broad 1 2 0\n39 9 -\n40 9 -\n41 10 -\n"));
+    let file = any_file(2, &run);
+    assert_eq!(printed_file(&file), format!("{lines}refused 42 15\n"));
+    // What comes after it does not matter: nothing, or what is no block.
+    let mut cut = any_file(2, &run[..43]);
+    assert_eq!(printed_file(&cut), format!("{lines}refused 42 15\n"));
+    cut.extend([7; 511]);
+    assert_eq!(printed_file(&cut), format!("{lines}refused 42 15\n"));
+    assert_eq!(runfile::write_file(2, &run), Err(Refusal::ToItself));
 }
 
 /// Kind 7: 5 before 7; "the Dest's own address, or a non-zero field here, is 7".
@@ -232,6 +313,7 @@ fn change_of_each_signal() {
     }
     assert_eq!(refused(&bus(3), change(1)), 7);
     assert_eq!(refused(&bus(3), change(2)), 5);
+    // "A Dest may still be changed to the sender's number"
     assert_eq!(bus(3).step(&change(0)), Ok(None));
     assert_eq!(bus(3).step(&change(63)), Ok(None));
     for clocks in [4, 5] {
@@ -351,7 +433,7 @@ fn no_state() {
         Bus { phase: Phase::Busy, ..fresh(3) },
         Bus { phase: Phase::Granting, ..fresh(3) },
     ];
-    for state in states {
+    for state in states.into_iter().chain(carried()) {
         assert!(state.is_state());
         assert_eq!(refused(&state, Record::default()), 2);
         // Of the bus's own mark 12 says nothing, whatever the phase.
@@ -359,6 +441,23 @@ fn no_state() {
         assert!(marked.is_state());
         assert_eq!(refused(&marked, Record::default()), 2);
     }
+}
+
+/// A bus of 3 for each place that can hold a packet to node 2 itself: "12 does not look at it".
+fn carried() -> Vec<Bus> {
+    let own = packet(2, 5, 6, 7);
+    let of = |mode, buffer, sending| {
+        let mut bus = Bus { phase: Phase::Busy, ..fresh(3) };
+        bus.nodes[2] = Node { mode, buffer, sending };
+        bus
+    };
+    let mut states = vec![of(Mode::Rest, Some(own), own), of(Mode::Asked, Some(own), own)];
+    states.extend((0..=5).map(|step| of(Mode::Sending { step }, None, own)));
+    states.extend([Mode::AwaitAck, Mode::Wait, Mode::Holding].map(|mode| of(mode, None, own)));
+    // The Dest of such a packet under way.
+    let dest = Phase::Delivering { sender: 2, signal: Signal::Dest(2), receiver: 0 };
+    states.push(Bus { phase: dest, ..of(Mode::Sending { step: 3 }, None, own) });
+    states
 }
 
 /// A bus of 3 for each place that can hold a label, with this one there.

@@ -216,6 +216,31 @@ fn states_handed_in() {
     assert_eq!(first_at(&bus, "sent", 0, 2), "grant, clock 0");
 }
 
+/// "A state handed in that already carries such a packet still plays it out", to its miss: each signal of
+/// the packet that is left, and the gaps.
+#[test]
+fn packets_to_the_node_itself() {
+    let mut bus = Bus { phase: Phase::Busy, holder: Marks(0b10), ..fresh(2) };
+    bus.nodes[1].sending = packet(1, 5, 6, 7);
+    bus.nodes[1].mode = Mode::Sending { step: 5 };
+    assert_eq!(first_at(&bus, "miss", 1, 4), "clock 1, pass, gap, gap");
+    bus.nodes[1].mode = Mode::Sending { step: 4 };
+    let way = first_at(&bus, "miss", 1, 6);
+    let ways =
+        ["pass", "lose", "change"].map(|data| format!("clock 1, {data}, clock 1, pass, gap, gap"));
+    assert!(ways.contains(&way), "{way}");
+    bus.nodes[1].mode = Mode::Sending { step: 3 };
+    assert_eq!(route(&bus, asks("miss", 1, 6)), "none");
+    // Nobody else hears of it.
+    for word in Report::WORDS {
+        assert_eq!(route(&bus, asks(word, 0, 6)), "none");
+    }
+    // In a buffer it waits for kinds 2, 11 and 12, which are no bus events.
+    let mut bus = fresh(2);
+    bus.nodes[1].buffer = Some(packet(1, 5, 6, 7));
+    assert_eq!(route(&bus, asks("miss", 1, 6)), "none");
+}
+
 /// The shortest length there is, by trying all continuations depth first.
 fn depth_first(bus: &Bus, question: &Question, left: u8) -> Option<usize> {
     if left == 0 {

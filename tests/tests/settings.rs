@@ -77,17 +77,26 @@ fn whole_texts() {
     expected.users[2] = User { period: 8, ..UNSAID };
     expected.actions = 7;
     assert_eq!(settings(format!("{text}\n{again}")), expected);
-    // "a user of whom nothing is said sends to node 0"
-    assert_eq!(settings("nodes 63\nactions 65535"), Settings::new(63, 65_535));
-    assert_eq!(settings("nodes 2\nactions 1\nuser 1"), Settings::new(2, 1));
+    // "a user of whom nothing is said sends to node 0, and there must be a line for user 0"
+    let alone = |n, actions| {
+        let mut settings = Settings::new(n, actions);
+        settings.users[0].address = 63;
+        settings
+    };
+    assert_eq!(settings("nodes 63\nactions 65535\nuser 0 to all"), alone(63, 65_535));
+    assert_eq!(settings("nodes 2\nuser 0 to 63\nactions 1\nuser 1"), alone(2, 1));
     // All addresses that there are.
     for n in 2..=63 {
-        for address in (0..n).chain([63]) {
-            let mut expected = Settings::new(n, 1);
-            expected.users[usize::from(n) - 1].address = address;
-            let text = format!("nodes {n}\nuser {} to {address}\nactions 1\n", n - 1);
+        let last = n - 1;
+        for address in (0..last).chain([63]) {
+            let mut expected = alone(n, 1);
+            expected.users[usize::from(last)].address = address;
+            let text = format!("nodes {n}\nuser 0 to all\nuser {last} to {address}\nactions 1\n");
             assert_eq!(settings(text), expected);
         }
+        let text = format!("nodes {n}\nuser {last} to {last}\nactions 1\n");
+        let why = format!("user {last} to {last}: node {last} would send to itself");
+        assert_eq!(complaint(text), format!("line 2: refused 15: {why}"));
     }
 }
 
@@ -156,17 +165,53 @@ fn faults_and_their_lines() {
             "nodes 9\nactions 5\nuser 8 to 0x3E lose 1\n",
             "line 3: refused 5: user 8 to 0x3E lose 1: no address 62, addresses are 0 to 8 and all",
         ),
+        // "Looked at after 5."
+        (
+            "nodes 2\nactions 5\nuser 1 to 1\n",
+            "line 3: refused 15: user 1 to 1: node 1 would send to itself",
+        ),
+        // "What is not said is 0".
+        ("nodes 2\nuser 0\n", "line 2: refused 15: user 0: node 0 would send to itself"),
+        (
+            "nodes 63\nuser 0x0  hold # x\n",
+            "line 2: refused 15: user 0x0  hold: node 0 would send to itself",
+        ),
+        // "the later one counts, whole"
+        (
+            "nodes 2\nuser 0 to 1\nactions 5\nuser 0 spell 7\n",
+            "line 4: refused 15: user 0 spell 7: node 0 would send to itself",
+        ),
+        // "The first line with a fault ends the reading."
+        (
+            "nodes 2\nuser 0 to 0\nuser 1 to 9\n",
+            "line 2: refused 15: user 0 to 0: node 0 would send to itself",
+        ),
+        // 4 before 15; an address that there is not is no node's own.
+        ("nodes 2\nuser 2 to 2\n", "line 2: refused 4: user 2 to 2: no node 2, nodes are 0 to 1"),
+        (
+            "nodes 2\nuser 63 to all\n",
+            "line 2: refused 4: user 63 to all: no node 63, nodes are 0 to 1",
+        ),
+        ("user 0\nnodes 2\n", "line 1: no nodes line"),
+        ("nodes 2\nuser 0 to 0 to 1\n", "line 2: extra field: \"to\""),
         ("nodes 2\nuser 2 to 2 x\n", "line 2: extra field: \"x\""),
         (
             "nodes 2\nuser 2 to 2 spell 256\n",
             "line 2: number too large: \"256\", the spell of user, at most 255",
         ),
         // "told at the text's end, with the number of its last line"
-        ("nodes 2", "line 1: no action"),
-        ("nodes 2\n\n# x\n", "line 3: no action"),
-        ("nodes 2\nuser 0\nuser 1", "line 3: no action"),
-        ("nodes 2\nactions 0\n", "line 2: no action"),
-        ("nodes 2\nactions 5\nactions 0\nuser 0\n", "line 4: no action"),
+        ("nodes 2\nuser 0 to 1", "line 2: no action"),
+        ("nodes 2\nuser 0 to 1\n\n# x\n", "line 4: no action"),
+        ("nodes 2\nuser 0 to 1\nuser 1", "line 3: no action"),
+        ("nodes 2\nactions 0\nuser 0 to all\n", "line 3: no action"),
+        ("nodes 2\nactions 5\nactions 0\nuser 0 to 1\n", "line 4: no action"),
+        // "before `no action`"
+        ("nodes 2", "line 1: no user 0 line"),
+        ("nodes 2\n\n# user 0 to 1\n", "line 3: no user 0 line"),
+        ("nodes 2\nuser 1\n", "line 2: no user 0 line"),
+        ("nodes 2\nactions 5\n", "line 2: no user 0 line"),
+        ("nodes 3\nactions 5\nuser 1 to 0\nuser 2 to all hold\n", "line 4: no user 0 line"),
+        ("nodes 2\nactions 0\n", "line 2: no user 0 line"),
         ("nodes 2\nactions 0\nuser 2\n", "line 3: refused 4: user 2: no node 2, nodes are 0 to 1"),
     ] {
         assert_eq!(complaint(text), words, "{text:?}");
@@ -185,6 +230,8 @@ fn faults_and_their_lines() {
         "refused 1",
         "refused 4",
         "refused 5",
+        "refused 15",
+        "no user 0 line",
         "no action",
     ];
     assert!(faults.iter().all(|fault| met.contains_key(fault)) && met.len() == faults.len());
@@ -274,7 +321,7 @@ fn words_and_statements() {
 /// As in runs: skipped at the very start, part of a word elsewhere.
 #[test]
 fn the_byte_order_mark() {
-    let text = b"nodes 2\nactions 5\n";
+    let text = b"nodes 2\nactions 5\nuser 0 to 1\n";
     let marked = [&b"\xef\xbb\xbf"[..], text].concat();
     assert_eq!(settings(&marked), settings(text));
     assert_eq!(complaint(b"\xef\xbb\xbf"), "line 0: no nodes line");
@@ -326,7 +373,8 @@ fn the_subcommands() {
     let (file, said) = trial(example);
     assert_eq!((file.len(), &said[..]), (512, tally));
     assert_eq!(model(&["trial"], example), (Some(0), file, tally.into()));
-    assert_eq!(model(&["trial"], b"nodes 2\n"), (Some(0), vec![], "line 1: no action\n".into()));
+    let wrong = b"nodes 2\nuser 0 to 1\n";
+    assert_eq!(model(&["trial"], wrong), (Some(0), vec![], "line 2: no action\n".into()));
     assert_eq!(model(&["trial", "x"], example).0, Some(1));
     for seed in ["1", "2", "3", "4", "5"] {
         let (status, text, errors) = model(&["settings", "--seed", seed], b"");

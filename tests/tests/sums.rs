@@ -31,11 +31,7 @@ fn summed(file: &[u8]) -> String {
 
 /// The sums of a file of these records, right or wrong.
 fn summed_run(n: u8, records: &[Record]) -> String {
-    let mut file = vec![0; records.len().div_ceil(31) * BLOCK];
-    for ((block, part), number) in file.chunks_exact_mut(BLOCK).zip(records.chunks(31)).zip(0..) {
-        runfile::write_unchecked(block.try_into().unwrap(), number, n, part);
-    }
-    summed(&file)
+    summed(&any_file(n, records))
 }
 
 /// "the one sum is 2 × 15 = 30, the head's is 1 × 5 + 2 × 6 = 17, the check is 47"
@@ -145,6 +141,7 @@ fn a_refused_write() {
     assert_eq!(last(clock(2)), 4);
     assert_eq!(last(change(2)), 5);
     assert_eq!(last(labelled(0, 1, 0, 0, 64)), 13);
+    assert_eq!(last(request(0, 0, 0, 0)), 15);
     assert_eq!(last(respond(1, 16, 0)), 6);
 }
 
@@ -197,6 +194,8 @@ fn refused_after_the_line() {
     ends(&second(labelled(2, 2, 0, 0, 64)), "refused 1 4");
     ends(&second(labelled(1, 2, 0, 0, 64)), "refused 1 5");
     ends(&second(labelled(1, 63, 0, 0, 64)), "refused 1 13");
+    ends(&second(labelled(1, 1, 0, 0, 64)), "refused 1 13");
+    ends(&second(labelled(1, 1, 0, 0, 63)), "refused 1 15");
     ends(&second(respond(1, 0, 2)), "refused 1 6");
     // Kind 13 at the first: 13 · 15, then 5 · 31 more.
     let first = summed_run(2, &[Record { kind: 13, ..pass() }, pass()]);
@@ -207,6 +206,31 @@ fn refused_after_the_line() {
     let text = summed_run(2, &run);
     ends(&text, "refused 30 4");
     assert_eq!(text.lines().next().unwrap().split(' ').count(), 32);
+}
+
+/// A run from before request 10: both blocks have their lines, as they had, and the second has its
+/// request of a node to itself after them.
+#[test]
+fn an_older_run() {
+    let text = summed_run(2, &older_run());
+    let lines: Vec<&str> = text.lines().collect();
+    assert_eq!(lines.len(), 3);
+    let sums = |line: &str| line.split(' ').skip(1).count();
+    assert_eq!((sums(lines[0]), sums(lines[1]), lines[2]), (31, 27, "refused 42 15"));
+    // Up to the request the sums are those of a run that goes elsewhere; its address is 0 then, and the
+    // 63 of the other has place 14 + 16·11 + 3 = 193.
+    let mut elsewhere = older_run();
+    elsewhere[42].address = 63;
+    let text = summed_run(2, &elsewhere);
+    let other: Vec<&str> = text.lines().collect();
+    assert_eq!((lines[0], other[2]), (other[0], "done 58"));
+    let second =
+        |line: &str| -> Vec<u32> { line.split(' ').map(|sum| sum.parse().unwrap()).collect() };
+    let (own, other) = (second(lines[1]), second(other[1]));
+    assert_eq!(own[..12], other[..12]);
+    for (own, other) in own[12..].iter().zip(&other[12..]) {
+        assert_eq!((own + 63 * 193) % 65_521, *other);
+    }
 }
 
 /// 8, 9, 1, 10 and 11 come before the block's line.

@@ -169,7 +169,7 @@ fn vectors() {
 
 /// "A trial is refused by the first of these that holds, and then the tally stays as it was".
 #[test]
-fn refused_by_1_5_and_11() {
+fn refused_by_1_5_15_and_11() {
     let refused = |settings: &Settings| {
         let mut tally = STRANGE;
         let refusal = trial(settings, &mut tally).expect_err("refused");
@@ -185,31 +185,51 @@ fn refused_by_1_5_and_11() {
     for (n, address) in [(2, 2), (2, 62), (2, 64), (2, 255), (62, 62), (63, 64), (63, 255)] {
         assert_eq!(refused(&given(n, 5, &[to(address)])), Refusal::Address);
         assert_eq!(refused(&given(n, 0, &[to(63), to(address)])), Refusal::Address);
+        // "So 5 is looked at for all nodes before 15 is for any": node 0 would send to itself.
         let mut last = Settings::new(n, 5);
         last.users[usize::from(n) - 1] = to(address);
         assert_eq!(refused(&last), Refusal::Address);
+        assert_eq!(refused(&Settings { actions: 0, ..last }), Refusal::Address);
         // "What is set for other nodes is not read."
         let mut other = given(2, 5, &[to(1)]);
         other.users[2] = to(address);
         other.users[62] = to(address);
         assert_eq!(tried(&other), tried(&given(2, 5, &[to(1)])));
     }
-    assert_eq!(refused(&given(2, 0, &[])), Refusal::BlockContent);
+    for n in [2, 3, 62, 63] {
+        // Each of them alone, and the first and the last at once.
+        for node in 0..n {
+            let mut itself = given(n, 5, &[to(63); 63]);
+            itself.users[usize::from(node)] = to(node);
+            assert_eq!(refused(&itself), Refusal::ToItself);
+            itself.users[usize::from(n) - 1] = to(n - 1);
+            assert_eq!(refused(&itself), Refusal::ToItself);
+            // 15 comes before 11.
+            assert_eq!(refused(&Settings { actions: 0, ..itself }), Refusal::ToItself);
+        }
+        // Where nothing is said, node 0 would.
+        assert_eq!(refused(&given(n, 5, &[])), Refusal::ToItself);
+        assert_eq!(refused(&given(n, 0, &[])), Refusal::ToItself);
+    }
+    let mut other = given(2, 5, &[to(1)]);
+    other.users[2] = to(2);
+    other.users[62] = to(62);
+    assert_eq!(tried(&other), tried(&given(2, 5, &[to(1)])));
+    assert_eq!(refused(&given(2, 0, &[to(1)])), Refusal::BlockContent);
     assert_eq!(refused(&given(63, 0, &[to(62)])), Refusal::BlockContent);
-    assert_eq!(
-        [Refusal::NodeCount, Refusal::Address, Refusal::BlockContent].map(Refusal::number),
-        [1, 5, 11]
-    );
+    let order = [Refusal::NodeCount, Refusal::Address, Refusal::ToItself, Refusal::BlockContent];
+    assert_eq!(order.map(Refusal::number), [1, 5, 15, 11]);
 }
 
 /// Each n, addresses at the ends of their range, 1 action and the most.
 #[test]
 fn not_refused() {
     for n in 2..=63 {
-        let users: Vec<User> = (0..n).map(|i| to(if i % 2 == 0 { n - 1 } else { 63 })).collect();
+        let address = |i| if i % 2 == 0 && i != n - 1 { n - 1 } else { 63 };
+        let users: Vec<User> = (0..n).map(|i| to(address(i))).collect();
         assert_eq!(tried(&given(n, 1, &users)).0, [request(0, n - 1, 0, 0)]);
     }
-    assert_eq!(tried(&Settings::new(63, 65_535)).0.len(), 65_535);
+    assert_eq!(tried(&given(63, 65_535, &[to(62)])).0.len(), 65_535);
 }
 
 // ---- the rules by hand
@@ -341,15 +361,6 @@ fn replies() {
     assert_eq!(reply(0), ("ack 1 1".into(), false));
     assert_eq!(reply(63), ("sent 1".into(), true));
     assert_eq!(reply(2), ("miss 1".into(), false));
-    assert_eq!(reply(1), ("miss 1".into(), false));
-}
-
-/// "An address may be the node's own. Such a packet ends in `miss`."
-#[test]
-fn packets_to_oneself() {
-    let (_, counted) = tried(&two(1000, [to(0), to(1)]));
-    assert_eq!((counted.sent, counted.ack, counted.drops), (0, 0, 0));
-    assert!(counted.miss > 40 && counted.miss <= counted.wins);
 }
 
 /// "header i, data *made* and label *made* modulo 64"
@@ -368,12 +379,14 @@ fn headers_data_and_labels() {
     }
 }
 
-/// All users as they are if nothing is said: node 0's packets go to itself, the others' to node 0.
+/// All users but user 0 as they are if nothing is said: their packets go to node 0.
 #[test]
 fn nothing_said() {
-    let (run, counted) = tried(&Settings::new(3, 400));
-    assert!(run.iter().filter(|record| record.kind == 1).all(|record| record.address == 0));
-    assert!(counted.ack > 0 && counted.miss > 0 && counted.sent + counted.drops == 0);
+    let (run, counted) = tried(&given(3, 400, &[to(2)]));
+    for record in run.iter().filter(|record| record.kind == 1) {
+        assert_eq!(record.address, if record.node == 0 { 2 } else { 0 });
+    }
+    assert!(counted.ack > 10 && counted.sent + counted.miss + counted.drops == 0);
 }
 
 // ---- each sentence of the request, on random settings

@@ -1,4 +1,4 @@
-//! Action records and what they say: refusals 2 to 6 and 13.
+//! Action records and what they say: refusals 2 to 6, 13 and 15.
 
 use super::packet::{is_address, is_label, Head, Packet};
 use super::refusal::Refusal;
@@ -35,7 +35,7 @@ pub enum Action {
 }
 
 impl Record {
-    /// Refusals 2 to 6, in their order, with 13 "looked at after 5".
+    /// Refusals 2 to 6, in their order, with 13 "looked at after 5" and 15 "looked at after 13".
     pub fn look(&self, n: u8) -> Result<Action, Refusal> {
         let Record { kind, node, address, ack, hold, label, header, data, .. } = *self;
         // The record as it would be with nothing in it but the fields that its kind names.
@@ -60,6 +60,10 @@ impl Record {
         }
         if !is_label(label) {
             return Err(Refusal::Label);
+        }
+        // Kind 1 alone names both a node and an address.
+        if kind == 1 && address == node {
+            return Err(Refusal::ToItself);
         }
         if ack > 15 || hold > 1 {
             return Err(Refusal::AckOrHold);

@@ -1,5 +1,5 @@
-//! "The twelve numbers", request 3's: "13, label over 63", and request 9's: "14, depth over 6 or n over
-//! 8".
+//! "The twelve numbers", request 3's: "13, label over 63", request 9's: "14, depth over 6 or n over 8",
+//! and request 10's: "15, request to the node itself".
 
 #[derive(Clone, Copy, PartialEq, Eq, Hash, Debug)]
 pub enum Refusal {
@@ -31,6 +31,8 @@ pub enum Refusal {
     Label = 13,
     /// Of a route: depth over 6 or n over 8.
     Route = 14,
+    /// Request to the node itself.
+    ToItself = 15,
 }
 
 impl Refusal {

@@ -9,7 +9,8 @@ impl Bus {
     /// "a state handed in with n not 2–63; a sender, receiver or gap node not below n; receiver
     /// equal to sender; an address neither below n nor 63; an acknowledgement over 15; a step of
     /// Sending over 5 or of Acking over 2" is none, nor is one "that holds a label over 63".
-    /// "Records and marks of nodes from n on are neither read nor changed".
+    /// "Records and marks of nodes from n on are neither read nor changed". A packet to the node that
+    /// holds it is as good as another: 15 is about requests.
     pub fn is_state(&self) -> bool {
         let n = self.n;
         if !(2..=63).contains(&n) {

@@ -10,11 +10,11 @@ use super::compare_text::{difference, run};
 use super::hits::{self, Hits};
 use super::questions::PLACES;
 use super::random::Random;
-use super::states::{Handed, StateWay, FLAWS, SIZES};
+use super::states::{Handed, StateWay, CARRIED, FLAWS, SIZES};
 use super::workers;
-use crate::bus::Refusal;
+use crate::bus::{Mode, Refusal};
 use crate::probe::LENGTH;
-use crate::routes::{self, DEEPEST, MOST_NODES};
+use crate::routes::{self, Route, DEEPEST, MOST_NODES};
 
 pub struct Options<'a> {
     pub program: &'a Path,
@@ -37,12 +37,18 @@ fn aims() -> Vec<String> {
     let places: Vec<&str> = PLACES.into_iter().chain(["Gap"]).collect();
     let refusals = [12, 14, 4].map(|number| format!("refused {number}"));
     let orders = [ORDER_12, ORDER_14].map(String::from);
-    let ways = SIZES.map(StateWay::Size).into_iter().chain(FLAWS.map(StateWay::Flawed));
+    let ways = SIZES
+        .map(StateWay::Size)
+        .into_iter()
+        .chain(FLAWS.map(StateWay::Flawed))
+        .chain(CARRIED.map(StateWay::Carried));
+    let to_itself = [IN_BUFFER, BEING_SENT, TO_ITS_MISS].map(String::from);
     answers::aims(&places)
         .into_iter()
         .chain(refusals)
         .chain(orders)
         .chain(ways.map(of_way))
+        .chain(to_itself)
         .collect()
 }
 
@@ -51,6 +57,28 @@ const ORDER_14: &str = "refused 14, where 4 holds too";
 
 fn of_way(way: StateWay) -> String {
     format!("{way:?}")
+}
+
+/// "A state handed in that already carries such a packet still plays it out."
+const IN_BUFFER: &str = "a packet to the node itself in its buffer, not refused";
+const BEING_SENT: &str = "a packet to the node itself being sent, not refused";
+const TO_ITS_MISS: &str = "a packet to the node itself being sent, and a route to its miss";
+
+/// Which of these a state with this answer has hit.
+fn hits_to_itself(handed: &Handed, route: &Route) -> Vec<String> {
+    let Handed { bus, question, .. } = handed;
+    let waits = |node| bus.node(node).buffer.is_some_and(|packet| packet.address == node);
+    let sends = |node| {
+        let record = bus.node(node);
+        matches!(record.mode, Mode::Sending { .. }) && record.sending.address == node
+    };
+    let to_its_miss = question.word == "miss" && sends(question.node) && route.is_some();
+    let hits = [
+        ((0..bus.n).any(waits), IN_BUFFER),
+        ((0..bus.n).any(sends), BEING_SENT),
+        (to_its_miss, TO_ITS_MISS),
+    ];
+    hits.into_iter().filter(|(hit, _)| *hit).map(|(_, name)| name.into()).collect()
 }
 
 /// Questions in one sequence.
@@ -123,7 +151,9 @@ fn one_state(handed: &Handed, theirs: &[u8]) -> Result<Vec<String>, String> {
     match routes::find(bus, question) {
         Ok(ours) => {
             answers::look(bus, question, &ours, theirs)?;
-            Ok(answers::hits(bus, question, &ours))
+            let mut hits = answers::hits(bus, question, &ours);
+            hits.extend(hits_to_itself(handed, &ours));
+            Ok(hits)
         }
         Err(refusal) => {
             let ours = format!("refused {}", refusal.number());

@@ -133,7 +133,7 @@ fn watch(bytes: &[u8], place: usize, line: &Line) -> Result<(), String> {
 
 /// Numbers by which a block is refused, and an action.
 const OF_BLOCKS: [u8; 5] = [8, 9, 1, 10, 11];
-const OF_ACTIONS: [u8; 6] = [2, 3, 4, 5, 13, 6];
+const OF_ACTIONS: [u8; 7] = [2, 3, 4, 5, 13, 15, 6];
 
 const LINES: [&str; 3] = ["a line with 1 sum", "a line with 2 to 30 sums", "a line with 31 sums"];
 const BLOCKS: [&str; 4] = [

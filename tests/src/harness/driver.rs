@@ -119,9 +119,11 @@ impl Driver {
         self.random.below(self.bus.n.into()) as u8
     }
 
-    fn packet(&mut self) -> Packet {
+    /// What this node may send.
+    fn packet(&mut self, node: u8) -> Packet {
         let all = self.random.percent(self.style.broadcast);
-        let address = if all { ALL_NODES } else { self.any_node() };
+        let other = self.random.other_node(node, self.bus.n);
+        let address = if all { ALL_NODES } else { other };
         let mut packet = self.random.packet(address);
         // Mostly the next label, as drivers give them: requests in flight are to be told apart.
         if self.random.percent(60) {
@@ -132,12 +134,12 @@ impl Driver {
     }
 
     fn request(&mut self, node: u8) -> Action {
-        Action::Request { node, packet: self.packet() }
+        Action::Request { node, packet: self.packet(node) }
     }
 
     /// A request from Holding.
     fn reply(&mut self, node: u8) -> Action {
-        let packet = self.packet();
+        let packet = self.packet(node);
         match listener(&self.bus) {
             Some(address) if self.random.percent(self.style.to_listener) => {
                 Action::Request { node, packet: Packet { address, ..packet } }

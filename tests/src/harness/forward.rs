@@ -1,7 +1,10 @@
 //! Forward actions that are open: found by trying them.
 
 use super::random::Random;
-use crate::bus::{Action, Bus, Mode, Packet, Phase, Signal, ALL_NODES};
+use crate::bus::{Action, Bus, Head, Mode, Packet, Phase, Signal, ALL_NODES};
+
+/// A packet that every node may send.
+const TO_ALL: Packet = Packet { address: ALL_NODES, head: Head { header: 0, label: 0 }, data: 0 };
 
 /// Is some forward action open? Likely ones are tried first, then one of each kind at each node.
 pub fn some_open(bus: &Bus) -> bool {
@@ -22,7 +25,7 @@ fn likely(bus: &Bus) -> Vec<Action> {
             .nodes(bus.n)
             .map(|node| match bus.node(node).mode {
                 Mode::Answering => Action::Respond { node, ack: 0, hold: false },
-                Mode::Holding => Action::Request { node, packet: Packet::default() },
+                Mode::Holding => Action::Request { node, packet: TO_ALL },
                 _ => Action::Clock { node },
             })
             .collect(),
@@ -38,7 +41,7 @@ fn decisions(bus: &Bus) -> Vec<Action> {
 fn all_sorts(bus: &Bus) -> Vec<Action> {
     let mut sorts = of_bus(bus);
     for node in 0..bus.n {
-        sorts.push(Action::Request { node, packet: Packet::default() });
+        sorts.push(Action::Request { node, packet: TO_ALL });
         sorts.push(Action::Respond { node, ack: 0, hold: false });
         sorts.push(Action::Decide { node });
     }
@@ -123,7 +126,7 @@ fn at_holders(bus: &Bus, choice: Choice, random: &mut Random) -> Vec<Action> {
                 hold: !bus.concatenated && (longest || random.percent(50)),
             },
             Mode::Holding => {
-                let other = random.below(bus.n.into()) as u8;
+                let other = random.other_node(node, bus.n);
                 let address = match listener(bus) {
                     Some(listener) if longest || random.percent(50) => listener,
                     _ => random.pick(&[other, other, ALL_NODES]),

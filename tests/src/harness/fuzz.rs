@@ -14,7 +14,7 @@ use crate::runfile::{self, BLOCK, CHECK_AT, FULL};
 pub fn fuzz(program: &Path, files: u64, seed: u64) -> Result<String, String> {
     let scratch = Scratch::new().map_err(|error| format!("no scratch directory: {error}"))?;
     let path = scratch.file("fuzz.run");
-    let mut ends = [0u64; 14];
+    let mut ends = [0u64; 16];
     for index in 0..files {
         let mut random = Random::of(!seed, index);
         let bytes = make(&mut random);

@@ -88,7 +88,6 @@ const BRANCHES: [(&str, &[&str]); 9] = [
             "respond with hold 0, the user releases, the mark is set",
             "request in Holding, to the node that listens",
             "request in Holding, to a node that does not listen",
-            "request in Holding, to itself",
             "request in Holding, to all",
             "clock in Sending",
             "clock in Answering",
@@ -162,14 +161,9 @@ fn expect(right: bool, why: impl FnOnce() -> String) -> Result<(), String> {
     }
 }
 
-/// What the request of a node to this address ends in, whatever is lost: "one to 63 ends in `sent`";
-/// "An address may be the node's own. Such a packet ends in `miss`."
-fn known_end(node: u8, address: u8) -> Option<&'static str> {
-    match address {
-        ALL_NODES => Some("sent"),
-        _ if address == node => Some("miss"),
-        _ => None,
-    }
+/// What a request to this address ends in, whatever is lost: "one to 63 ends in `sent`".
+fn known_end(address: u8) -> Option<&'static str> {
+    (address == ALL_NODES).then_some("sent")
 }
 
 impl<'a> Outside<'a> {
@@ -282,12 +276,11 @@ impl<'a> Outside<'a> {
         let unheard = address != ALL_NODES && self.bus.node(address).mode != Mode::Listening;
         let to = match address {
             ALL_NODES => "request in Holding, to all",
-            _ if address == node => "request in Holding, to itself",
             _ if unheard => "request in Holding, to a node that does not listen",
             _ => "request in Holding, to the node that listens",
         };
         self.take("rule 4", to);
-        self.start(node, known_end(node, address).or(unheard.then_some("miss")), true);
+        self.start(node, known_end(address).or(unheard.then_some("miss")), true);
     }
 
     fn start(&mut self, node: u8, end: Option<&'static str>, is_reply: bool) {
@@ -447,7 +440,7 @@ impl<'a> Outside<'a> {
 
     fn win(&mut self, node: u8) {
         let address = self.bus.node(node).sending.address;
-        self.start(node, known_end(node, address), false);
+        self.start(node, known_end(address), false);
         self.has_won[usize::from(node)] = true;
         self.over[usize::from(node)] = self.time + u64::from(self.user(node).spell);
     }

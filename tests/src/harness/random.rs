@@ -49,6 +49,11 @@ impl Random {
         items[self.below(items.len() as u64) as usize]
     }
 
+    /// One of n nodes, but not this one.
+    pub fn other_node(&mut self, node: u8, n: u8) -> u8 {
+        (node + self.byte(1, n - 1)) % n
+    }
+
     /// A header or datum: the ends of the range now and then, small ones often.
     pub fn word(&mut self) -> u32 {
         match self.below(8) {

@@ -36,7 +36,7 @@ impl<'a> Seen<'a> {
         let mut wrong = None;
         if let Some(complaint) = complaint {
             let at_end = match complaint.flaw.fault {
-                Fault::NoAction | Fault::NoFindLine => true,
+                Fault::NoUserLine | Fault::NoAction | Fault::NoFindLine => true,
                 Fault::NoNodesLine => read.iter().all(|line| is_blank(line)),
                 _ => false,
             };

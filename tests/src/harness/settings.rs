@@ -95,10 +95,9 @@ struct Style {
     spells: (u8, u8),
     fillers: (u8, u8),
     periods: (u8, u8),
-    /// So many of a hundred hold; send to all; to themselves; are left as they are if nothing is said.
+    /// So many of a hundred hold; send to all; are left as they are if nothing is said.
     hold: u64,
     to_all: u64,
-    to_itself: u64,
     unsaid: u64,
 }
 
@@ -110,24 +109,18 @@ impl Style {
             periods: random.pick(&[(0, 0), (0, 2), (0, 9), (3, 20), (0, 255), (1, 1), (255, 255)]),
             hold: random.pick(&[0, 50, 50, 100, 100]),
             to_all: random.pick(&[0, 10, 10, 30, 100]),
-            to_itself: random.pick(&[0, 0, 5, 30]),
             unsaid: random.pick(&[0, 0, 10, 50]),
         }
     }
 
     fn user(&self, random: &mut Random, node: u8, n: u8) -> User {
-        if random.percent(self.unsaid) {
+        // Of user 0 it must be said where it sends.
+        if node != 0 && random.percent(self.unsaid) {
             return User::default();
         }
         let within = |random: &mut Random, (low, high): (u8, u8)| random.byte(low, high);
-        let other = (node + random.byte(1, n - 1)) % n;
-        let address = if random.percent(self.to_all) {
-            ALL_NODES
-        } else if random.percent(self.to_itself) {
-            node
-        } else {
-            other
-        };
+        let other = random.other_node(node, n);
+        let address = if random.percent(self.to_all) { ALL_NODES } else { other };
         User {
             spell: within(random, self.spells),
             address,
@@ -273,16 +266,24 @@ impl<'a> Writer<'a> {
         vec![keyword, (slot, field, word)]
     }
 
-    /// Any user of a node that there is.
-    fn any_user(&mut self) -> (u8, User) {
-        let node = self.page.random.byte(0, self.n - 1);
+    fn any_node(&mut self) -> u8 {
+        self.page.random.byte(0, self.n - 1)
+    }
+
+    /// Any user of this node.
+    fn user_of(&mut self, node: u8) -> User {
         let style = Style::random(self.page.random);
-        (node, style.user(self.page.random, node, self.n))
+        style.user(self.page.random, node, self.n)
+    }
+
+    fn say_user(&mut self, node: u8) {
+        let user = self.user_of(node);
+        self.say(Said::User(node, user));
     }
 
     fn any_user_said(&mut self) -> Said {
-        let (node, user) = self.any_user();
-        Said::User(node, user)
+        let node = self.any_node();
+        Said::User(node, self.user_of(node))
     }
 
     fn any_said(&mut self) -> Said {

@@ -3,7 +3,7 @@
 
 use super::questions::question;
 use super::random::Random;
-use super::ways::{no_address, no_label, too_high};
+use super::ways::{at_rest, no_address, no_label, too_high};
 use crate::bus::{Bus, Check, Head, Marks, Mode, Node, Packet, Phase, Report, Signal, ALL_NODES};
 use crate::probe::{self, Bytes, BUFFER, BUFFER_FULL, NODES};
 use crate::routes::{Question, DEEPEST, MOST_NODES};
@@ -75,10 +75,24 @@ impl Flawed {
     }
 }
 
+/// Where a state carries a packet to the node itself: 12 does not mind it.
+#[derive(Clone, Copy, PartialEq, Eq, Debug)]
+pub enum Carried {
+    InBuffer,
+    /// By a node in Sending that holds the bus alone.
+    BeingSent,
+    /// The same at its last step; asked for is how it ends, "to its `miss`".
+    ToItsMiss,
+}
+
+pub const CARRIED: [Carried; 3] = [Carried::InBuffer, Carried::BeingSent, Carried::ToItsMiss];
+
 #[derive(Clone, Copy, PartialEq, Eq, Debug)]
 pub enum StateWay {
     /// A state, and a question that is not refused.
     Right,
+    /// The same, with a packet to the node itself.
+    Carried(Carried),
     /// A state, with a depth of 7 or 8.
     Deep,
     /// A state, and a node that is none.
@@ -95,6 +109,7 @@ pub const SIZES: [u8; 6] = [0, 1, 9, 63, 64, 255];
 impl StateWay {
     pub fn all() -> Vec<StateWay> {
         let mut all = vec![StateWay::Right; 80];
+        all.extend(CARRIED.map(StateWay::Carried).repeat(3));
         all.extend([StateWay::Deep, StateWay::NoNode].repeat(5));
         all.extend(SIZES.map(StateWay::Size).repeat(2));
         all.extend(FLAWS.map(StateWay::Flawed));
@@ -105,11 +120,14 @@ impl StateWay {
         let n = match self {
             StateWay::Size(n) => n,
             StateWay::Flawed(_) => random.pick(&[2, 3, 8, 9, 9]),
+            // With more nodes it takes over 6 actions.
+            StateWay::Carried(Carried::ToItsMiss) => random.byte(2, 3),
             _ => random.byte(2, MOST_NODES),
         };
         let mut bus = state(random, n);
         let mut question = match self {
             StateWay::Right | StateWay::Deep | StateWay::NoNode => question(random, &bus),
+            StateWay::Carried(carried) => carry(random, &mut bus, carried),
             _ => any_question(random, n),
         };
         match self {
@@ -119,7 +137,7 @@ impl StateWay {
             }
             StateWay::NoNode => question.node = too_high(random, n),
             StateWay::Flawed(flawed) => spoil(random, &mut bus, flawed),
-            StateWay::Right | StateWay::Size(_) => (),
+            StateWay::Right | StateWay::Carried(_) | StateWay::Size(_) => (),
         }
         others(random, &mut bus);
         Handed::new(random, bus, question)
@@ -238,6 +256,28 @@ fn hold_alone(random: &mut Random, bus: &mut Bus, nodes: u8) {
     bus.nodes[usize::from(node)].mode = random.pick(&[sending, last, acking, other]);
 }
 
+/// Puts a packet to the node itself there; gives a question about the state.
+fn carry(random: &mut Random, bus: &mut Bus, carried: Carried) -> Question {
+    let node = random.byte(0, bus.n - 1);
+    let packet = random.packet(node);
+    let record = &mut bus.nodes[usize::from(node)];
+    if carried == Carried::InBuffer {
+        record.buffer = Some(packet);
+        return question(random, bus);
+    }
+    let any = random.byte(0, 5);
+    let step = if carried == Carried::ToItsMiss { 5 } else { any };
+    (record.mode, record.sending) = (Mode::Sending { step }, packet);
+    (bus.phase, bus.holder) = (Phase::Busy, Marks(1 << node));
+    if carried == Carried::BeingSent {
+        return question(random, bus);
+    }
+    // Nobody keeps the bus, and nobody is granted it before the gap.
+    *bus = at_rest(bus);
+    bus.pending = Marks::default();
+    Question { word: "miss", node, depth: DEEPEST }
+}
+
 /// A mode that many nodes have: one in which this signal is the next.
 fn awaiting(random: &mut Random, signal: Signal) -> Mode {
     let head = head(random);
@@ -326,7 +366,7 @@ fn mode(random: &mut Random) -> Mode {
 fn phase(random: &mut Random, n: u8) -> Phase {
     let sender = random.byte(0, n - 1);
     let first = if sender == 0 { 1 } else { 0 };
-    let any = (sender + random.byte(1, n - 1)) % n;
+    let any = random.other_node(sender, n);
     let receiver = random.pick(&[first, any]);
     let delivering = Phase::Delivering { sender, signal: signal(random, n), receiver };
     let gapping = Phase::Gapping { node: random.byte(0, n - 1) };

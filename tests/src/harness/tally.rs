@@ -10,8 +10,8 @@ use crate::bus::{
 };
 use crate::table::{class, place, signals, Cell, CLASSES, MODES};
 
-/// Refusals that a file can meet: all but 12.
-const REFUSALS: [u8; 12] = [1, 2, 3, 4, 5, 6, 7, 8, 9, 10, 11, 13];
+/// Refusals that a file can meet: all but 12 and 14.
+const REFUSALS: [u8; 13] = [1, 2, 3, 4, 5, 6, 7, 8, 9, 10, 11, 13, 15];
 
 /// The first three have no label.
 const REPORTS: [&str; 9] = ["won", "lost", "drop", "sent", "ack", "miss", "good", "dcrc", "broad"];
@@ -77,8 +77,9 @@ fn cell_name(place: usize, class: usize) -> String {
     format!("{} on {}", MODES[place].0, CLASSES[class])
 }
 
-const EVENTS: [&str; 73] = [
+const EVENTS: [&str; 74] = [
     "Dest changed",
+    "Dest changed to the sender's own number",
     "Header lost",
     "Header changed",
     "Data lost",
@@ -344,12 +345,13 @@ impl Tally {
                 self.events.enter(&event);
             }
             let asked = after.asked().count();
-            let states = [
+            let others = [
+                (changes_to_sender(before, action), "Dest changed to the sender's own number"),
                 (after.holder.nodes(after.n).nth(1).is_some(), "several holders"),
                 (asked > 1, "several nodes Asked"),
                 (asked > 0 && after.phase == Phase::Idle, "idle bus with a node that is Asked"),
             ];
-            for (_, event) in states.into_iter().filter(|(hit, _)| *hit) {
+            for (_, event) in others.into_iter().filter(|(hit, _)| *hit) {
                 self.events.enter(event);
             }
         }
@@ -485,6 +487,16 @@ fn event(bus: &Bus, action: Action, reported: Option<Reported>) -> Option<&'stat
         _ => return None,
     };
     Some(event)
+}
+
+/// "A Dest may still be changed to the sender's number": only a request may not have it.
+fn changes_to_sender(bus: &Bus, action: Action) -> bool {
+    match (bus.phase, action) {
+        (Phase::Delivering { sender, signal: Signal::Dest(_), .. }, Action::Change { address }) => {
+            address == sender
+        }
+        _ => false,
+    }
 }
 
 /// What it calls the same action where it befalls a reply. The bus's mark is set from the Prefix

@@ -1,5 +1,5 @@
 //! `model walk`: one transaction from a fresh bus and the reply to it, walked through whole. Node 0
-//! has a request to each possible address and wins; then every interleaving of all open actions of
+//! has a request to each address but its own and wins; then every interleaving of all open actions of
 //! kinds 3 to 9, 11 and 12 and of some requests from Holding. The other nodes have requests waiting,
 //! with which they ask and are decided at every point; node 0's has left its buffer. Idle ends the
 //! walk: what is asked and decided there begins the next transaction.
@@ -13,9 +13,9 @@ use crate::bus::{
     Action, Bus, Head, Marks, Mode, Node, Packet, Phase, Report, Reported, ALL_NODES,
 };
 
-/// The packet of node 0's request, and those that wait at all other nodes. Replies have other labels
-/// than both.
-const REQUEST: Packet = Packet { address: 0, head: Head { header: 1, label: 7 }, data: 2 };
+/// The packet of node 0's request, which goes to other addresses too, and those that wait at all other
+/// nodes. Replies have other labels than both.
+const REQUEST: Packet = Packet { address: ALL_NODES, head: Head { header: 1, label: 7 }, data: 2 };
 const WAITING: Packet = Packet { address: 0, head: Head { header: 5, label: 8 }, data: 6 };
 
 /// A request that has started: its node, address and label, and whether the addressed node has
@@ -52,7 +52,7 @@ impl Reached {
     /// What is reached by this action, if it is open. All requests tried are from Holding.
     fn by(&self, action: Action) -> Result<Option<Reached>, String> {
         let mut next = self.clone();
-        let Ok(reported) = next.bus.act(action) else {
+        let Ok(reported) = next.bus.play(&action.into()) else {
             return Ok(None);
         };
         match reported {
@@ -156,11 +156,12 @@ struct Walk {
     kept_closed: BTreeSet<String>,
 }
 
-/// The requests from Holding that are tried: to each address, and a second packet to the last.
-fn packets(n: u8) -> Vec<Packet> {
+/// The requests from Holding that are tried: to each address but the node's own, and a second packet to
+/// the last.
+fn packets(node: u8, n: u8) -> Vec<Packet> {
     let head = Head { header: 3, label: 9 };
     let mut packets: Vec<Packet> =
-        addresses(n).map(|address| Packet { address, head, data: 4 }).collect();
+        others(node, n).map(|address| Packet { address, head, data: 4 }).collect();
     let head = Head { header: 0, label: 63 };
     packets.push(Packet { address: ALL_NODES, head, data: u32::MAX });
     packets
@@ -168,6 +169,11 @@ fn packets(n: u8) -> Vec<Packet> {
 
 fn addresses(n: u8) -> impl Iterator<Item = u8> {
     (0..n).chain([ALL_NODES])
+}
+
+/// The addresses to which a node may send.
+fn others(node: u8, n: u8) -> impl Iterator<Item = u8> {
+    addresses(n).filter(move |&address| address != node)
 }
 
 /// All actions of kinds 3 to 9, 11 and 12, and some requests; on an idle bus no ask.
@@ -184,7 +190,8 @@ fn candidates(bus: &Bus) -> Vec<Action> {
             actions.extend([false, true].map(|hold| Action::Respond { node, ack, hold }));
         }
         if bus.node(node).mode == Mode::Holding {
-            actions.extend(packets(n).into_iter().map(|packet| Action::Request { node, packet }));
+            let packets = packets(node, n).into_iter();
+            actions.extend(packets.map(|packet| Action::Request { node, packet }));
         }
     }
     actions
@@ -245,7 +252,7 @@ fn after_win(n: u8, address: u8) -> Result<Reached, String> {
     let request = Packet { address, ..REQUEST };
     for node in 0..n {
         let packet = if node == 0 { request } else { WAITING };
-        if bus.act(Action::Request { node, packet }) != Ok(None) {
+        if bus.play(&Action::Request { node, packet }.into()) != Ok(None) {
             return Err(format!("node {node}: a fresh bus does not take its request"));
         }
     }
@@ -275,7 +282,7 @@ fn expected_longest(n: u8) -> u32 {
 pub fn walk(n: u8) -> Result<String, String> {
     let mut text = String::new();
     let (mut walk, mut longest) = (Walk::default(), 0);
-    for address in addresses(n) {
+    for address in others(0, n) {
         let before = walk.known.len();
         let length = walk.over_all(after_win(n, address)?)?;
         let states = walk.known.len() - before;

@@ -3,6 +3,7 @@
 
 mod closed;
 mod damage;
+mod itself;
 
 use std::fmt;
 
@@ -12,9 +13,10 @@ use crate::bus::{Action, Bus, Packet, Record, ALL_NODES};
 use crate::runfile::{self, BLOCK, FULL};
 pub use closed::{at_rest, kept_closed, phase_name, signal_name, Closed, KEPT_CLOSED};
 pub use damage::Damage;
+pub use itself::ToItself;
 
 /// Numbers that can end a file whose actions are looked at and not played.
-pub const UNPLAYED: [u8; 11] = [1, 2, 3, 4, 5, 6, 8, 9, 10, 11, 13];
+pub const UNPLAYED: [u8; 12] = [1, 2, 3, 4, 5, 6, 8, 9, 10, 11, 13, 15];
 
 /// "Number 2 now means a kind not 1–12."
 pub const KINDS: u8 = 12;
@@ -125,6 +127,8 @@ pub enum Way {
     },
     /// 13
     Label(u8),
+    /// 15, and those before it
+    ToItself(ToItself),
     /// 6
     Ack(u8),
     Hold(u8),
@@ -152,6 +156,7 @@ impl Way {
         ways.extend([1, 2, 3, 4, 11, 12].map(|kind| Way::NodeTooHigh { kind }));
         ways.extend([1, 7].map(|kind| Way::NoAddress { kind }));
         ways.extend([64, 65, 127, 128, 255].map(Way::Label));
+        ways.extend(ToItself::ALL.map(Way::ToItself));
         ways.extend([16, 17, 128, 255].map(Way::Ack));
         ways.extend([2, 3, 128, 255].map(Way::Hold));
         ways.extend(Closed::all().into_iter().map(Way::Closed));
@@ -169,6 +174,7 @@ impl Way {
             Way::NodeTooHigh { kind } => format!("refusal 4, kind {kind}"),
             Way::NoAddress { kind } => format!("refusal 5, kind {kind}"),
             Way::Label(_) => "refusal 13".into(),
+            Way::ToItself(to_itself) => to_itself.aim().into(),
             Way::Ack(_) | Way::Hold(_) => "refusal 6".into(),
             Way::Closed(closed) => format!("refusal 7, {}", closed.aim()),
             Way::Damaged(_) => "damaged files".into(),
@@ -225,6 +231,7 @@ impl Way {
                 let record = right_record(random, n, 1);
                 Record { label, ..record }
             }),
+            Way::ToItself(to_itself) => to_itself.make(random),
             Way::Ack(ack) => wrong_record(random, 6, |random, n| {
                 let record = right_record(random, n, 3);
                 let hold = random.pick(&[record.hold, record.hold, 2]);
@@ -289,10 +296,51 @@ fn wrong_record(random: &mut Random, number: u8, make: impl Fn(&mut Random, u8) 
     Case { n, records, bytes, end: End::Refused { accepted, number } }
 }
 
+/// In how many runs a place is looked for; the rarest reason has one in every few.
+const TRIES: usize = 1000;
+
+/// A run of open actions, of this style for its n, and somewhere in it what `example` gives for the bus
+/// there: actions of which the last is refused by this number after the others.
+fn placed(
+    random: &mut Random,
+    way: Way,
+    number: u8,
+    style: impl Fn(&mut Random, u8) -> Style,
+    example: impl Fn(&Bus, &mut Random) -> Option<Vec<Action>>,
+) -> Case {
+    for _ in 0..TRIES {
+        let n = nodes(random);
+        let style = style(random, n);
+        let bus = Bus::fresh(n).expect("n from 2 to 63");
+        let mut driver = Driver::new(bus, Random::new(random.draw()), style);
+        let mut records = Vec::new();
+        let mut wrong = None;
+        let mut met = 0;
+        for place in 0..random.between(1, 800) as usize {
+            if let Some(actions) = example(&driver.bus, random) {
+                // Each place where there is one is as likely as another.
+                met += 1;
+                if random.below(met) == 0 {
+                    wrong = Some((place, actions));
+                }
+            }
+            records.push(driver.play().0.into());
+        }
+        let Some((place, actions)) = wrong else {
+            continue;
+        };
+        let accepted = place + actions.len() - 1;
+        records.splice(place..place, actions.into_iter().map(Record::from));
+        let bytes = file(n, &records);
+        return Case { n, records, bytes, end: End::Refused { accepted, number } };
+    }
+    panic!("{way}: no place for it in {TRIES} runs of open actions")
+}
+
 /// A record whose fields are right for its kind; open or not.
 pub(super) fn right_record(random: &mut Random, n: u8, kind: u8) -> Record {
     let node = random.below(n.into()) as u8;
-    let other = random.below(n.into()) as u8;
+    let other = random.other_node(node, n);
     let address = random.pick(&[other, other, ALL_NODES]);
     let packet = random.packet(address);
     right_action(random, kind, node, packet).into()

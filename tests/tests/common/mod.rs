@@ -6,7 +6,8 @@ pub mod plain;
 pub mod stand_ins;
 
 use bench_model::bus::{Action, Bus, Head, Packet, Record};
-use bench_model::{player, runfile};
+use bench_model::player;
+use bench_model::runfile::{self, BLOCK, FULL};
 
 pub fn packet(address: u8, header: u32, data: u32, label: u8) -> Packet {
     Packet { address, head: Head { header, label }, data }
@@ -110,6 +111,29 @@ pub fn replied() -> Vec<Record> {
     run.extend([clock(0), pass()].repeat(3));
     run.extend([gap(), gap()]);
     run
+}
+
+/// A whole run of two blocks from before request 10, n = 2: case B, case A, and then node 0's packet to
+/// itself (8, 9) with label 5, requested at 42 and played out to its miss at 56.
+pub fn older_run() -> Vec<Record> {
+    let mut run = case_b();
+    run.push(reset());
+    run.extend([request(0, 63, 1, 2), arbitrate(0)]);
+    run.extend(packet_of_two());
+    run.extend([gap(), gap(), reset()]);
+    run.extend([labelled(0, 0, 8, 9, 5), arbitrate(0)]);
+    run.extend(packet_of_two());
+    run.extend([gap(), gap()]);
+    run
+}
+
+/// A run file of these records, right or wrong.
+pub fn any_file(n: u8, records: &[Record]) -> Vec<u8> {
+    let mut file = vec![0; records.len().div_ceil(FULL) * BLOCK];
+    for ((block, part), number) in file.chunks_exact_mut(BLOCK).zip(records.chunks(FULL)).zip(0..) {
+        runfile::write_unchecked(block.try_into().expect("512 bytes"), number, n, part);
+    }
+    file
 }
 
 pub fn printed_file(bytes: &[u8]) -> String {

@@ -17,12 +17,26 @@ impl Room {
         Room(path)
     }
 
+    /// A file of this name, with this in it.
+    pub fn write(&self, name: &str, bytes: &[u8]) -> PathBuf {
+        let path = self.0.join(name);
+        fs::write(&path, bytes).expect("a file");
+        path
+    }
+
+    pub fn remove(&self, name: &str) {
+        fs::remove_file(self.0.join(name)).expect("it is there");
+    }
+
+    pub fn path(&self) -> &Path {
+        &self.0
+    }
+
     /// A script of this name, which knows the model as `$model` and a file of its own as `$own`.
     pub fn script(&self, name: &str, body: &str) -> PathBuf {
-        let path = self.0.join(name);
         let (model, room) = (env!("CARGO_BIN_EXE_model"), self.0.display());
         let text = format!("#!/bin/sh\nmodel='{model}'\nown='{room}/'$$\n{body}\n");
-        fs::write(&path, text).expect("a script");
+        let path = self.write(name, text.as_bytes());
         fs::set_permissions(&path, fs::Permissions::from_mode(0o755)).expect("a program");
         path
     }

@@ -1,6 +1,6 @@
 //! What texts of questions must hit.
 
-use crate::bus::Report;
+use crate::bus::{Record, Report, ALL_NODES};
 use crate::harness::answers;
 use crate::harness::seen::{is_blank, of, Aims, Seen, Sight};
 use crate::harness::texts::aims as of_runs;
@@ -92,12 +92,23 @@ fn refused_7_in_a_repeat(seen: &Seen) -> bool {
     read(&text).is_err_and(|complaint| complaint.flaw.fault == Fault::NoFindLine)
 }
 
+/// Whether a request is refused by 15 that would be open, or would not, if it went to all nodes. On a
+/// bus of up to 8 nodes, of which a question can be asked.
+fn refused_15(seen: &Seen, open: bool) -> bool {
+    let Some(record) = of_runs::to_itself(seen, 15) else {
+        return false;
+    };
+    let text = [&seen.read.join(&b'\n')[..], b"\nfind won 0 within 0"].concat();
+    let to_all = Record { address: ALL_NODES, ..record };
+    read(&text).is_ok_and(|mut asked| asked.bus.play(&to_all).is_ok() == open)
+}
+
 /// Whether a line after the line `find` has this fault.
 fn after_find(seen: &Seen, fault: Fault) -> bool {
     seen.fault == Some(fault) && seen.any_line(is_find)
 }
 
-const TEXTS: [Sight; 17] = [
+const TEXTS: [Sight; 19] = [
     ("a question", |seen| seen.fault.is_none()),
     ("a question with no action", |seen| {
         seen.fault.is_none() && seen.read.iter().filter(|line| !is_blank(line)).count() == 2
@@ -136,11 +147,15 @@ const TEXTS: [Sight; 17] = [
     ("refused by 14 for both", |seen| refused_14(seen, true, true)),
     ("refused by 14, and no node", refused_14_before_4),
     ("refused by 7 in a repeat", refused_7_in_a_repeat),
+    ("refused by 15, open otherwise", |seen| refused_15(seen, true)),
+    ("refused by 15, where 7 holds too", |seen| refused_15(seen, false)),
 ];
 
 /// All there is to hit.
 fn all() -> Aims {
-    Aims::new(faults(), causes(), known_words(), &TEXTS, &[("statement", &of_runs::REPEATED)])
+    let more: [(_, &[Sight]); 2] =
+        [("statement", &of_runs::REPEATED), ("request to itself", &of_runs::TO_ITSELF)];
+    Aims::new(faults(), causes(), known_words(), &TEXTS, &more)
 }
 
 fn not_open(name: &str) -> String {

@@ -10,7 +10,7 @@ use crate::harness::texts::spelling::{
 use crate::harness::texts::wrong::{
     bare, put_end, put_line, put_words, right_words, spoil_rest, End as RunEnd, Wrong as WrongRun,
 };
-use crate::harness::ways::{self, Closed, Way, KINDS};
+use crate::harness::ways::{self, Closed, ToItself, Way, KINDS};
 use crate::plain::Fault;
 use crate::routes::{Question, DEEPEST, MOST_NODES};
 
@@ -43,8 +43,8 @@ pub enum Wrong {
     Nodes(u8),
     /// By 4.
     Node(u8),
-    /// By 7.
-    NotOpen(Closed),
+    /// An action of the run, as in a file made in this way: by 7, by 15, by 4 before 15.
+    InRun(Way),
     /// By 7 after it was open, of this kind.
     NotOpenAgain(u8),
 }
@@ -57,6 +57,10 @@ const DEPTH: usize = 4;
 
 /// Where the line after the last kind of action stands in [`Wrong::After`].
 const FIND: u8 = KINDS + 1;
+
+/// Requests to the node itself: open otherwise, where 7 holds too, and one that is refused by 4 first.
+const TO_ITSELF: [ToItself; 4] =
+    [ToItself::InRest, ToItself::InHolding, ToItself::NotOpen, ToItself::NodeTooHigh];
 
 /// What becomes of the line of a run after the line `find`.
 #[derive(Clone, Copy, PartialEq, Eq, Debug)]
@@ -77,6 +81,7 @@ fn after(wrong: &WrongRun) -> After {
         | WrongRun::Node(_)
         | WrongRun::Address(_)
         | WrongRun::Label(_)
+        | WrongRun::ToItself
         | WrongRun::Ack(_) => After::Refused,
         _ => After::Itself,
     }
@@ -96,7 +101,8 @@ impl Wrong {
         all.extend([7, 7, 8, 9, 63, 128, 255].map(Wrong::Depth));
         all.extend([9, 9, 10, 16, 62, 63].map(Wrong::Nodes));
         all.extend((2..=MOST_NODES).map(Wrong::Node));
-        all.extend(Closed::all().into_iter().step_by(5).map(Wrong::NotOpen));
+        all.extend(Closed::all().into_iter().step_by(5).map(Way::Closed).map(Wrong::InRun));
+        all.extend(TO_ITSELF.map(Way::ToItself).map(Wrong::InRun));
         all.extend((1..=KINDS).map(Wrong::NotOpenAgain));
         all
     }
@@ -149,7 +155,7 @@ pub fn wrong_run(random: &mut Random, wrong: WrongRun) -> QuestionCase {
 /// A text with this line in it.
 pub fn wrong_line(random: &mut Random, wrong: Wrong) -> QuestionCase {
     match wrong {
-        Wrong::NotOpen(closed) => not_open(random, closed),
+        Wrong::InRun(way) => in_run(random, way),
         Wrong::NotOpenAgain(kind) => not_open_again(random, kind),
         Wrong::After(_) | Wrong::RefusedAfter(_) | Wrong::WrongAfter(_) => {
             after_find(random, wrong)
@@ -310,26 +316,25 @@ fn right_line(writer: &mut Writer, wrong: Wrong) -> Vec<Word> {
     }
 }
 
-/// A run with an action in it that is not open, for this reason.
-fn not_open(random: &mut Random, closed: Closed) -> QuestionCase {
-    let case = Way::Closed(closed).make(random);
-    let place = match case.end {
-        ways::End::Refused { accepted, .. } => accepted,
-        _ => unreachable!("it is refused by 7"),
+/// A run up to the action that is refused in a file made in this way, and that.
+fn in_run(random: &mut Random, way: Way) -> QuestionCase {
+    let case = way.make(random);
+    let ways::End::Refused { accepted, number } = case.end else {
+        unreachable!("{way}: no action is refused");
     };
     let mut writer = Writer::of(random, case.n);
-    put_run(&mut writer, &case.records[..place]);
-    not_open_line(writer, case.records[place], 1)
+    put_run(&mut writer, &case.records[..accepted]);
+    refused_line(writer, case.records[accepted], 1, number)
 }
 
-/// The line that is refused by 7.
-fn not_open_line(mut writer: Writer, record: Record, times: usize) -> QuestionCase {
+/// The line of an action, so many times, that is refused by this number.
+fn refused_line(mut writer: Writer, record: Record, times: usize, number: u8) -> QuestionCase {
     let fault = put_words(&mut writer, |writer| {
         let mut words = bare(writer.spell(record));
         if times > 1 {
             words.extend([b"*".to_vec(), writer.page.number(times as u64)]);
         }
-        (words, Fault::Refused(7))
+        (words, Fault::Refused(number))
     });
     faulty(writer, fault)
 }
@@ -344,7 +349,7 @@ fn not_open_again(random: &mut Random, kind: u8) -> QuestionCase {
     let mut writer = Writer::of(random, bus.n);
     put_run(&mut writer, &records);
     let more = writer.page.random.pick(&[1, 1, 2, 1000]);
-    not_open_line(writer, record, times + more)
+    refused_line(writer, record, times + more, 7)
 }
 
 /// A run, an action of this kind that is open after it, and how often: once at least, and not without

@@ -9,7 +9,7 @@ use crate::settings::{read_line, Line};
 use crate::trial::{Settings, User};
 
 /// All that settings can have.
-const FAULTS: [Fault; 12] = [
+const FAULTS: [Fault; 14] = [
     Fault::LongLine,
     Fault::UnknownWord,
     Fault::MissingField,
@@ -21,6 +21,8 @@ const FAULTS: [Fault; 12] = [
     Fault::Refused(1),
     Fault::Refused(4),
     Fault::Refused(5),
+    Fault::Refused(15),
+    Fault::NoUserLine,
     Fault::NoAction,
 ];
 
@@ -39,6 +41,10 @@ fn causes() -> Vec<(Fault, String)> {
         .chain(of(Fault::Refused(1), &["a bus has 2 to 63 nodes"]))
         .chain(of(Fault::Refused(4), &["nodes are 0 to 1", "nodes are 0 to 62"]))
         .chain(of(Fault::Refused(5), &["addresses are 0 to 1 and all"]))
+        .chain(of(
+            Fault::Refused(15),
+            &["node 0 would send to itself", "node 1 would send to itself"],
+        ))
         .collect()
 }
 
@@ -46,10 +52,17 @@ fn known_words() -> Vec<&'static str> {
     NAMES.into_iter().chain(USER_WORDS).chain(["all"]).collect()
 }
 
-/// What the lines of a right text say, in their order; nothing of a wrong one.
+/// What the right lines of a text say, in their order.
+fn lines(seen: &Seen) -> Vec<Line> {
+    seen.read.iter().filter_map(|line| read_line(line).ok()).collect()
+}
+
+/// Those of a right text; nothing of a wrong one.
 fn said(seen: &Seen) -> Vec<Line> {
-    let lines = seen.read.iter().filter(|_| seen.fault.is_none());
-    lines.filter_map(|line| read_line(line).ok()).collect()
+    match seen.fault {
+        None => lines(seen),
+        Some(_) => Vec::new(),
+    }
 }
 
 /// The numbers of actions that a right text says.
@@ -74,13 +87,36 @@ fn says_actions(seen: &Seen) -> bool {
     seen.any_word(|word| word == b"actions")
 }
 
-/// Whether a line that is refused by 4 has an address that there never is.
-fn refused_twice(seen: &Seen) -> bool {
-    let no_address = |line| match read_line(line) {
-        Ok(Line::User(_, user)) => user.address > ALL_NODES,
+/// Whether a line of a user is refused by this number, and such a one.
+fn refused(seen: &Seen, number: u8, is: impl Fn(u8, &User) -> bool) -> bool {
+    let is_such = |line| match read_line(line) {
+        Ok(Line::User(node, user)) => is(node, &user),
         _ => false,
     };
-    seen.fault == Some(Fault::Refused(4)) && seen.wrong.is_some_and(no_address)
+    seen.fault == Some(Fault::Refused(number)) && seen.wrong.is_some_and(is_such)
+}
+
+/// Whether the line that is wrong has this word.
+fn wrong_has(seen: &Seen, known: &[u8]) -> bool {
+    seen.wrong.is_some_and(|line| words(line).any(|word| word == known))
+}
+
+/// Whether no line speaks of user 0, and the lines that there are are such.
+fn without_user_0(seen: &Seen, are: impl Fn(&[Line]) -> bool) -> bool {
+    seen.fault == Some(Fault::NoUserLine) && are(&lines(seen))
+}
+
+fn is_user(line: &Line) -> bool {
+    matches!(line, Line::User(..))
+}
+
+/// Whether the last line about the actions says some.
+fn has_actions(lines: &[Line]) -> bool {
+    let actions = |line: &Line| match line {
+        Line::Actions(actions) => Some(*actions > 0),
+        _ => None,
+    };
+    lines.iter().rev().find_map(actions).unwrap_or(false)
 }
 
 /// Whether the first line that says something is wrong, and is no `nodes` line.
@@ -89,7 +125,7 @@ fn wrong_before_nodes(seen: &Seen) -> bool {
     seen.read.iter().all(|line| is_blank(line)) && name.is_some_and(|name| name != b"nodes")
 }
 
-const TEXTS: [Sight; 14] = [
+const TEXTS: [Sight; 21] = [
     ("a trial", |seen| seen.fault.is_none()),
     ("two lines about the actions", |seen| actions(seen).len() > 1),
     ("actions 0, and later more", |seen| actions(seen).contains(&0)),
@@ -98,11 +134,13 @@ const TEXTS: [Sight; 14] = [
         users.sort_unstable();
         users.windows(2).any(|pair| pair[0] == pair[1])
     }),
-    ("no user", |seen| seen.fault.is_none() && users(seen).is_empty()),
+    ("no user but user 0", |seen| {
+        seen.fault.is_none() && users(seen).iter().all(|&node| node == 0)
+    }),
     ("actions after a user", |seen| {
         let said = said(seen);
         let place = said.iter().rposition(|line| matches!(line, Line::Actions(_)));
-        said.iter().take(place.unwrap_or(0)).any(|line| matches!(line, Line::User(..)))
+        said.iter().take(place.unwrap_or(0)).any(is_user)
     }),
     ("over 1000 lines, and a trial", |seen| seen.fault.is_none() && seen.read.len() > 1000),
     ("a fault after line 65,535", |seen| seen.wrong.is_some() && seen.read.len() >= 65_535),
@@ -111,7 +149,18 @@ const TEXTS: [Sight; 14] = [
     ("no action without actions", |seen| {
         seen.fault == Some(Fault::NoAction) && !says_actions(seen)
     }),
-    ("no node, and no address", refused_twice),
+    ("no user 0 line, and other users", |seen| {
+        without_user_0(seen, |lines| lines.iter().any(is_user))
+    }),
+    ("no user 0 line, and no user", |seen| {
+        without_user_0(seen, |lines| !lines.iter().any(is_user))
+    }),
+    ("no user 0 line, and actions", |seen| without_user_0(seen, has_actions)),
+    ("no user 0 line, and no action", |seen| without_user_0(seen, |lines| !has_actions(lines))),
+    ("no node, and no address", |seen| refused(seen, 4, |_, user| user.address > ALL_NODES)),
+    ("no node, and to itself", |seen| refused(seen, 4, |node, user| user.address == node)),
+    ("to itself, as it says", |seen| refused(seen, 15, |_, _| wrong_has(seen, b"to"))),
+    ("to itself, since it says nothing", |seen| refused(seen, 15, |_, _| !wrong_has(seen, b"to"))),
     ("a line's own fault before the nodes line", |seen| {
         wrong_before_nodes(seen) && seen.fault != Some(Fault::NoNodesLine)
     }),
@@ -128,7 +177,7 @@ fn any(settings: &Settings, is: impl Fn(u8, &User) -> bool) -> bool {
     (0..settings.n).any(|node| is(node, settings.user(node)))
 }
 
-const VALUES: [Value; 23] = [
+const VALUES: [Value; 22] = [
     ("n = 2", |given| given.n == 2),
     ("n = 3", |given| given.n == 3),
     ("n = 63", |given| given.n == 63),
@@ -148,10 +197,11 @@ const VALUES: [Value; 23] = [
     ("period 2", |given| any(given, |_, user| user.period == 2)),
     ("period 255", |given| any(given, |_, user| user.period == 255)),
     ("to all", |given| any(given, |_, user| user.address == ALL_NODES)),
-    ("to itself", |given| any(given, |node, user| user.address == node)),
     ("to the last node", |given| any(given, |_, user| user.address == given.n - 1)),
     ("a user that is all 0", |given| any(given, |_, user| *user == User::default())),
-    ("all users all 0", |given| !any(given, |_, user| *user != User::default())),
+    ("all users all 0 but user 0", |given| {
+        !any(given, |node, user| node != 0 && *user != User::default())
+    }),
 ];
 
 /// All that a text can hit.

@@ -49,9 +49,10 @@ pub enum Wrong {
     SecondNodes,
     /// n refused by number 1.
     Nodes(u8),
-    /// Refused by number 4, 5.
+    /// Refused by number 4, 5, 15.
     Node,
     Address,
+    ToItself,
 }
 
 impl Wrong {
@@ -70,7 +71,7 @@ impl Wrong {
         all.extend([255, 65_535].map(Wrong::Far));
         all.extend([Wrong::BeforeNodes, Wrong::SecondNodes]);
         all.extend([0, 1, 64, 65, 128, 255].map(Wrong::Nodes));
-        all.extend([Wrong::Node, Wrong::Address].repeat(5));
+        all.extend([Wrong::Node, Wrong::Address, Wrong::ToItself].repeat(5));
         all
     }
 }
@@ -83,6 +84,8 @@ pub enum End {
     HalfMarkAlone,
     BlankAlone,
     NodesAlone,
+    /// Actions, or `actions 0`, and no line for user 0.
+    WithoutUser0,
     /// Users, and no `actions` line.
     UsersAlone,
     /// `actions 0` is the latest word on it.
@@ -90,13 +93,15 @@ pub enum End {
 }
 
 impl End {
-    pub fn all() -> [End; 7] {
+    pub fn all() -> [End; 9] {
         [
             End::Empty,
             End::MarkAlone,
             End::HalfMarkAlone,
             End::BlankAlone,
             End::NodesAlone,
+            End::WithoutUser0,
+            End::WithoutUser0,
             End::UsersAlone,
             End::ActionsOfZero,
         ]
@@ -156,7 +161,9 @@ fn is_first(writer: &mut Writer, wrong: Wrong) -> bool {
         }
         Wrong::Long(_) => writer.page.random.percent(30),
         // At the very start the mark would be skipped; the others are of a line in its place.
-        Wrong::MarkInside | Wrong::SecondNodes | Wrong::Node | Wrong::Address => false,
+        Wrong::MarkInside | Wrong::SecondNodes | Wrong::Node | Wrong::Address | Wrong::ToItself => {
+            false
+        }
         // A line's own fault is looked at before its place.
         _ => writer.page.random.percent(10),
     }
@@ -248,8 +255,9 @@ fn wrong_words(writer: &mut Writer, wrong: Wrong) -> (Vec<Word>, Fault) {
         Wrong::OutOfOrder(place) => (misplaced(writer, place, false), Fault::ExtraField),
         Wrong::Twice(place) => (misplaced(writer, place, true), Fault::ExtraField),
         Wrong::BeforeNodes => {
+            let number = writer.page.random.pick(&[4, 15]);
             let said = match writer.page.random.percent(30) {
-                true => no_user(writer, true),
+                true => no_user(writer, number),
                 false => writer.any_said(),
             };
             (bare(writer.spell(said)), Fault::NoNodesLine)
@@ -260,27 +268,35 @@ fn wrong_words(writer: &mut Writer, wrong: Wrong) -> (Vec<Word>, Fault) {
             (bare(writer.spell_nodes(n)), Fault::NodesAgain)
         }
         Wrong::Nodes(n) => (bare(writer.spell_nodes(n)), Fault::Refused(1)),
-        Wrong::Node => {
-            let said = no_user(writer, true);
-            (bare(writer.spell(said)), Fault::Refused(4))
-        }
-        Wrong::Address => {
-            let said = no_user(writer, false);
-            (bare(writer.spell(said)), Fault::Refused(5))
-        }
+        Wrong::Node => refused(writer, 4),
+        Wrong::Address => refused(writer, 5),
+        Wrong::ToItself => refused(writer, 15),
     }
 }
 
-/// A user that is refused by 4, and then by 5 too now and then; or by 5 alone.
-fn no_user(writer: &mut Writer, by_node: bool) -> Said {
-    let (mut node, mut user) = writer.any_user();
-    if by_node {
-        node = ways::too_high(writer.page.random, writer.n);
-    }
-    if !by_node || writer.page.random.percent(30) {
-        user.address = ways::no_address(writer.page.random, writer.n);
-    }
-    Said::User(node, user)
+fn refused(writer: &mut Writer, number: u8) -> (Vec<Word>, Fault) {
+    let said = no_user(writer, number);
+    (bare(writer.spell(said)), Fault::Refused(number))
+}
+
+/// A user that is refused by 4, and for its address too now and then; or by 5; or by 15, that of node 0
+/// often, which need not say its address.
+fn no_user(writer: &mut Writer, number: u8) -> Said {
+    let node = writer.any_node();
+    let user = writer.user_of(node);
+    let no_address = ways::no_address(writer.page.random, writer.n);
+    let (node, address) = match number {
+        4 => {
+            let node = ways::too_high(writer.page.random, writer.n);
+            (node, writer.page.random.pick(&[user.address, user.address, no_address, node]))
+        }
+        5 => (node, no_address),
+        _ => {
+            let node = writer.page.random.pick(&[0, node]);
+            (node, node)
+        }
+    };
+    Said::User(node, User { address, ..user })
 }
 
 fn not_a_number(writer: &mut Writer, field: usize) -> Vec<Word> {
@@ -365,14 +381,42 @@ pub fn wrong_end(random: &mut Random, end: End) -> SettingsCase {
             }
             Fault::NoNodesLine
         }
-        End::NodesAlone | End::UsersAlone | End::ActionsOfZero => {
+        End::NodesAlone | End::WithoutUser0 | End::UsersAlone | End::ActionsOfZero => {
             writer.nodes();
-            without_actions(&mut writer, end);
-            Fault::NoAction
+            let fault = unfinished(&mut writer, end);
+            for _ in 0..writer.page.random.below(3) {
+                writer.page.blank();
+            }
+            fault
         }
     };
     let expected = Some(Err((writer.page.lines, fault)));
     SettingsCase { text: writer.page.text(), expected }
+}
+
+/// Puts down what follows the `nodes` line before such an end; says what the fault is.
+fn unfinished(writer: &mut Writer, end: End) -> Fault {
+    match end {
+        End::UsersAlone | End::ActionsOfZero => {
+            without_actions(writer, end);
+            Fault::NoAction
+        }
+        End::WithoutUser0 => {
+            without_user_0(writer);
+            Fault::NoUserLine
+        }
+        _ => Fault::NoUserLine,
+    }
+}
+
+/// What follows the `nodes` line of a text that has no line for user 0.
+fn without_user_0(writer: &mut Writer) {
+    let actions = writer.page.random.pick(&[0, 1, 100]);
+    writer.say(Said::Actions(actions));
+    for _ in 0..writer.page.random.below(3) {
+        let node = writer.page.random.byte(1, writer.n - 1);
+        writer.say_user(node);
+    }
 }
 
 /// What follows the `nodes` line of a text that says no number of actions, or 0 last.
@@ -382,13 +426,9 @@ fn without_actions(writer: &mut Writer, end: End) {
         writer.some(count);
         writer.say(Said::Actions(0));
     }
-    if end != End::NodesAlone {
-        for _ in 0..writer.page.random.between(1, 3) {
-            let said = writer.any_user_said();
-            writer.say(said);
-        }
-    }
+    writer.say_user(0);
     for _ in 0..writer.page.random.below(3) {
-        writer.page.blank();
+        let node = writer.any_node();
+        writer.say_user(node);
     }
 }

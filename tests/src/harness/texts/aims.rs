@@ -1,13 +1,13 @@
 //! What runs in plain words must hit.
 
 use super::spelling::NAMES;
-use crate::bus::is_label;
+use crate::bus::{is_label, Record};
 use crate::harness::seen::{of, Aims, Seen, Sight, HINTS};
 use crate::notation::{self, Complaint, Fault, Line};
 use crate::runfile::FULL;
 
 /// All that a text can have; too many actions take a text that nobody waits for.
-pub const FAULTS: [Fault; 15] = [
+pub const FAULTS: [Fault; 16] = [
     Fault::LongLine,
     Fault::UnknownWord,
     Fault::MissingField,
@@ -22,6 +22,7 @@ pub const FAULTS: [Fault; 15] = [
     Fault::Refused(4),
     Fault::Refused(5),
     Fault::Refused(13),
+    Fault::Refused(15),
     Fault::Refused(6),
 ];
 
@@ -50,7 +51,8 @@ pub fn causes() -> Vec<(Fault, String)> {
     let large = of(Fault::TooLarge, &FIELDS);
     let unknown = of(Fault::UnknownWord, &HINTS);
     let extra = of(Fault::ExtraField, &HINTS);
-    missing.chain(not).chain(large).chain(unknown).chain(extra).collect()
+    let to_itself = of(Fault::Refused(15), &["node 0 would send to itself"]);
+    missing.chain(not).chain(large).chain(unknown).chain(extra).chain(to_itself).collect()
 }
 
 /// The words that begin a line, then the others.
@@ -144,9 +146,29 @@ const LABELS: [Sight; 11] = [
     ("over 63, and no address", |seen| refused_before_label(seen, 5)),
 ];
 
+/// The request to the node itself that is refused by this number.
+pub fn to_itself(seen: &Seen, number: u8) -> Option<Record> {
+    let wrong = seen.wrong.filter(|_| seen.fault == Some(Fault::Refused(number)))?;
+    match notation::read_line(wrong) {
+        Ok(Line::Acts(record, _)) => {
+            Some(record).filter(|record| record.kind == 1 && record.address == record.node)
+        }
+        _ => None,
+    }
+}
+
+pub const TO_ITSELF: [Sight; 5] = [
+    ("of node 0", |seen| to_itself(seen, 15).is_some_and(|record| record.node == 0)),
+    ("of another node", |seen| to_itself(seen, 15).is_some_and(|record| record.node > 0)),
+    ("repeated", |seen| to_itself(seen, 15).is_some() && seen.statement().contains(&b'*')),
+    ("and a label over 63", |seen| to_itself(seen, 13).is_some()),
+    ("and no node", |seen| to_itself(seen, 4).is_some()),
+];
+
 /// All there is to hit.
 fn all() -> Aims {
-    let more: [(_, &[Sight]); 2] = [("statement", &REPEATED), ("label", &LABELS)];
+    let more: [(_, &[Sight]); 3] =
+        [("statement", &REPEATED), ("label", &LABELS), ("request to itself", &TO_ITSELF)];
     Aims::new(FAULTS.into(), causes(), known_words(), &TEXTS, &more)
 }
 

@@ -39,10 +39,11 @@ pub enum Wrong {
     SecondNodes,
     /// n refused by number 1.
     Nodes(u8),
-    /// Refused by number 4, 5, 13, 6.
+    /// Refused by number 4, 5, 13, 15, 6.
     Node(u8),
     Address(u8),
     Label(u8),
+    ToItself,
     Ack(u8),
 }
 
@@ -69,9 +70,10 @@ impl Wrong {
             Wrong::SecondNodes,
         ]);
         all.extend([0, 1, 64, 65, 128, 255].map(Wrong::Nodes));
-        all.extend([1, 2, 3, 4, 11, 12].map(Wrong::Node));
+        all.extend([1, 1, 1, 2, 3, 4, 11, 12].map(Wrong::Node));
         all.extend([1, 7].map(Wrong::Address));
         all.extend([64, 65, 128, 255].map(Wrong::Label));
+        all.extend([Wrong::ToItself; 4]);
         all.extend([16, 17, 255].map(Wrong::Ack));
         all
     }
@@ -170,6 +172,7 @@ fn is_first(writer: &mut Writer, wrong: Wrong) -> bool {
         | Wrong::Node(_)
         | Wrong::Address(_)
         | Wrong::Label(_)
+        | Wrong::ToItself
         | Wrong::Ack(_) => false,
         _ => writer.page.random.percent(10),
     }
@@ -300,8 +303,16 @@ fn wrong_words(writer: &mut Writer, wrong: Wrong) -> (Vec<Word>, Fault) {
             (refused(writer, record), Fault::Refused(5))
         }
         Wrong::Label(label) => {
-            let record = ways::right_record(writer.page.random, writer.n, 1);
+            let mut record = ways::right_record(writer.page.random, writer.n, 1);
+            // The number after 13 too, now and then.
+            if writer.page.random.percent(50) {
+                record.address = record.node;
+            }
             (refused(writer, Record { label, ..record }), Fault::Refused(13))
+        }
+        Wrong::ToItself => {
+            let record = ways::right_record(writer.page.random, writer.n, 1);
+            (refused(writer, Record { address: record.node, ..record }), Fault::Refused(15))
         }
         Wrong::Ack(ack) => {
             let record = ways::right_record(writer.page.random, writer.n, 3);
@@ -371,10 +382,11 @@ fn node_too_high(writer: &mut Writer, kind: u8) -> Vec<Word> {
     let mut record = ways::right_record(writer.page.random, writer.n, kind);
     record.node = ways::too_high(writer.page.random, writer.n);
     // The numbers after 4 too, now and then.
-    if writer.page.random.percent(30) {
+    if writer.page.random.percent(50) {
         match kind {
             1 => {
-                record.address = ways::no_address(writer.page.random, writer.n);
+                let no_address = ways::no_address(writer.page.random, writer.n);
+                record.address = writer.page.random.pick(&[no_address, record.node]);
                 record.label = ways::no_label(writer.page.random);
             }
             3 => record.ack = writer.page.random.byte(16, 255),

@@ -1,8 +1,8 @@
 //! Refusal 7: actions that are not open, for every reason there is.
 
-use super::{file, nodes, right_action, Case, End};
-use crate::bus::{Action, Bus, Mode, Phase, Record, Signal, ALL_NODES};
-use crate::harness::driver::{Driver, Style};
+use super::{placed, right_action, Case, Way};
+use crate::bus::{Action, Bus, Mode, Packet, Phase, Signal, ALL_NODES};
+use crate::harness::driver::Style;
 use crate::harness::forward;
 use crate::harness::random::Random;
 use crate::table::{place, MODES};
@@ -246,20 +246,21 @@ impl Closed {
         let other = random.below(n.into()) as u8;
         let address = random.pick(&[other, ALL_NODES]);
         let packet = random.packet(address);
+        // To the node itself it would be refused by 15.
+        let request = |node: u8| {
+            let address = if address == node { ALL_NODES } else { address };
+            Action::Request { node, packet: Packet { address, ..packet } }
+        };
         let signal = match bus.phase {
             Phase::Delivering { signal, .. } => Some(signal),
             _ => None,
         };
         let on = |name| signal.is_some_and(|signal| signal_name(signal) == name);
         match self {
-            Closed::RequestBufferFull => {
-                let node = find(&|node| rests(node) && full(node))?;
-                Some(Action::Request { node, packet })
-            }
+            Closed::RequestBufferFull => find(&|node| rests(node) && full(node)).map(request),
             Closed::RequestOtherMode => {
                 let holding = |node| bus.node(node).mode == Mode::Holding;
-                let node = find(&|node| !rests(node) && !asked(node) && !holding(node))?;
-                Some(Action::Request { node, packet })
+                find(&|node| !rests(node) && !asked(node) && !holding(node)).map(request)
             }
             Closed::ArbitrateBufferEmpty => {
                 let node = find(&|node| rests(node) && !full(node))?;
@@ -269,7 +270,7 @@ impl Closed {
                 let node = find(&|node| !rests(node) && !asked(node))?;
                 Some(Action::Arbitrate { node })
             }
-            Closed::RequestAsked => Some(Action::Request { node: find(&asked)?, packet }),
+            Closed::RequestAsked => find(&asked).map(request),
             Closed::ArbitrateAsked => Some(Action::Arbitrate { node: find(&asked)? }),
             Closed::AskAsked => Some(Action::Ask { node: find(&asked)? }),
             Closed::AskBufferEmpty => {
@@ -338,36 +339,8 @@ impl Closed {
     }
 }
 
-/// In how many runs a place is looked for; the rarest reason has one in every few.
-const TRIES: usize = 1000;
-
 /// A run of open actions with one somewhere that is not open, for this reason.
 pub fn run(random: &mut Random, closed: Closed) -> Case {
-    for _ in 0..TRIES {
-        let n = nodes(random);
-        let style = closed.style(random, n);
-        let bus = Bus::fresh(n).expect("n from 2 to 63");
-        let mut driver = Driver::new(bus, Random::new(random.draw()), style);
-        let mut records = Vec::new();
-        let mut wrong = None;
-        let mut met = 0;
-        for place in 0..random.between(1, 800) as usize {
-            if let Some(actions) = closed.example(&driver.bus, random) {
-                // Each place where there is one is as likely as another.
-                met += 1;
-                if random.below(met) == 0 {
-                    wrong = Some((place, actions));
-                }
-            }
-            records.push(driver.play().0.into());
-        }
-        let Some((place, actions)) = wrong else {
-            continue;
-        };
-        let accepted = place + actions.len() - 1;
-        records.splice(place..place, actions.into_iter().map(Record::from));
-        let bytes = file(n, &records);
-        return Case { n, records, bytes, end: End::Refused { accepted, number: 7 } };
-    }
-    panic!("{closed:?}: no place for it in {TRIES} runs of open actions")
+    let style = |random: &mut Random, n| closed.style(random, n);
+    placed(random, Way::Closed(closed), 7, style, |bus, random| closed.example(bus, random))
 }
