@@ -62,10 +62,10 @@ names-last k e5 e6 e7 e8 e9 e10 =
     by-test (ltb k 5) (λ e. rw e) λ e.
     rw (e, lt-ltb 10 k (omega (arith, ltb-false k 5 e, eqb-false k 5 e5, eqb-false k 6 e6, eqb-false k 7 e7, eqb-false k 8 e8, eqb-false k 9 e9, eqb-false k 10 e10)))
 
-move-known : (n : ℕ) (a : Action) → (namesNode (a .kind) ≡ true → a .node < n) → (namesAddress (a .kind) ≡ true → isAddress n (a .address) ≡ true) → isLabel (a .label) ≡ true → (namesPacket (a .kind) ≡ true → isOwn (a .node) (a .address) ≡ false) → isAck (a .ack) ≡ true → Known n (moveOf a)
+move-known : (n : ℕ) (a : Action) → (namesNode (a .kind) ≡ true → a .node < n) → (namesAddress (a .kind) ≡ true → isAddress n (a .address) ≡ true) → (namesPacket (a .kind) ≡ true → isLabel (a .label) ≡ true) → (namesPacket (a .kind) ≡ true → isOwn (a .node) (a .address) ≡ false) → isAck (a .ack) ≡ true → Known n (moveOf a)
 unfolding moveOf
 move-known n a node addr label other ack =
-    pick-by K (eqb k 1) _ _ (λ e. (node (ap namesNode (eqb-true k 1 e)), (both (isAddress n (a .address)) _ (addr (ap namesAddress (eqb-true k 1 e))) label, other e))) λ e1.
+    pick-by K (eqb k 1) _ _ (λ e. (node (ap namesNode (eqb-true k 1 e)), (both (isAddress n (a .address)) _ (addr (ap namesAddress (eqb-true k 1 e))) (label e), other e))) λ e1.
     pick-by K (eqb k 2) _ _ (λ e. node (ap namesNode (eqb-true k 2 e))) λ e2.
     pick-by K (eqb k 3) _ _ (λ e. (node (ap namesNode (eqb-true k 3 e)), ack)) λ e3.
     pick-by K (eqb k 4) _ _ (λ e. node (ap namesNode (eqb-true k 4 e))) λ e4.
@@ -93,7 +93,7 @@ decodes n a =
     pick-by (Decodes n a) (badLabel a) _ _ (λ e. turned refl) λ e13.
     pick-by (Decodes n a) (requestsItself a) _ _ (λ e. turned refl) λ e15.
     pick-by (Decodes n a) (badAnswer a) _ _ (λ e. turned refl) λ e6.
-    taken (move-known n a (λ u. ltb-true (a .node) n (implied-or _ _ e4 u)) (implied-or _ _ e5) (not-false _ e13) (then-not _ _ e15) (and-true (ltb (a .ack) 16) _ (not-false _ e6) .0))
+    taken (move-known n a (λ u. ltb-true (a .node) n (implied-or _ _ e4 u)) (implied-or _ _ e5) (implied-or _ _ e13) (then-not _ _ e15) (and-true (ltb (a .ack) 16) _ (not-false _ e6) .0))
 
 -- 12
 pub record Valid (s : State) : Type 0 where

@@ -84,7 +84,7 @@ abbrev pub badAddress : ℕ → Action → Bool
 badAddress n a = namesAddress (a .kind) && not (isAddress n (a .address))
 
 abbrev pub badLabel : Action → Bool
-badLabel a = not (isLabel (a .label))
+badLabel a = namesPacket (a .kind) && not (isLabel (a .label))
 
 abbrev pub requestsItself : Action → Bool
 requestsItself a = namesPacket (a .kind) && isOwn (a .node) (a .address)

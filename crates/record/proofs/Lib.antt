@@ -2,3 +2,4 @@ pub mod Little
 pub mod Round
 pub mod Walk
 pub mod Clean
+pub mod Looked

@@ -1,5 +1,10 @@
-use Rattle.charts.specs.Records.{read}
+use mathlib.Core.Path.{sym, _∙_}
+use mathlib.Core.Bool.{cond}
+use Rattle.charts.specs.declared.Decoded.the-variants.{Refused, Accepted}
+use Rattle.charts.specs.Numbers as N
+use Rattle.charts.specs.Records.{moveOf, badAnswer, read}
 use borrow.Author.Needs.{needs}
+use Rattle.record.proofs.Looked.{refused-by, passed}
 use Rattle.record.proofs.decode.Statement.{statement}
 use Rattle.record.proofs.decode.Tie as tie
 
@@ -40,36 +45,26 @@ returns-4 : tie.Need-returns-4
 unfolding read
 returns-4 c = simp (← c .before .before .before .before .before .before .before .before .before .before .before .is-kind .ensures, c .before .before .before .before .before .before .before .before .before .before .if1 .left, ← c .before .before .before .before .before .before .before .before .before .is-clean .ensures, c .before .before .before .before .before .before .before .before .if2 .left, ← c .before .before .before .before .before .before .before .names-node .ensures, ← c .before .before .before .before .before .both .ensures, c .before .before .before .before .if3 .left, ← c .before .before .before .names-address .ensures, ← c .before .before .is-address .ensures, ← c .before .both2 .ensures, c .if4 .taken)
 
-is-label-requires : tie.Need-is-label-requires
-is-label-requires c κs = search needs
+packet-number-requires : tie.Need-packet-number-requires
+packet-number-requires c κs = search needs
 
 returns-5 : tie.Need-returns-5
 unfolding read
-returns-5 c = simp (← c .before .before .before .before .before .before .before .before .before .before .before .before .before .is-kind .ensures, c .before .before .before .before .before .before .before .before .before .before .before .before .if1 .left, ← c .before .before .before .before .before .before .before .before .before .before .before .is-clean .ensures, c .before .before .before .before .before .before .before .before .before .before .if2 .left, ← c .before .before .before .before .before .before .before .before .before .names-node .ensures, ← c .before .before .before .before .before .before .before .both .ensures, c .before .before .before .before .before .before .if3 .left, ← c .before .before .before .before .before .names-address .ensures, ← c .before .before .before .before .is-address .ensures, ← c .before .before .before .both2 .ensures, c .before .before .if4 .left, ← c .before .is-label .ensures, c .if5 .taken)
-
-is-own-requires : tie.Need-is-own-requires
-is-own-requires c κs = search needs
+returns-5 c = simp (← c .before .before .before .before .before .before .before .before .before .before .before .before .before .is-kind .ensures, c .before .before .before .before .before .before .before .before .before .before .before .before .if1 .left, ← c .before .before .before .before .before .before .before .before .before .before .before .is-clean .ensures, c .before .before .before .before .before .before .before .before .before .before .if2 .left, ← c .before .before .before .before .before .before .before .before .before .names-node .ensures, ← c .before .before .before .before .before .before .before .both .ensures, c .before .before .before .before .before .before .if3 .left, ← c .before .before .before .before .before .names-address .ensures, ← c .before .before .before .before .is-address .ensures, ← c .before .before .before .both2 .ensures, c .before .before .if4 .left) (refused-by (c .before .before .before .before .before .before .before .before .before .before .before .before .before .before .args .a) (cond (badAnswer (c .before .before .before .before .before .before .before .before .before .before .before .before .before .before .args .a)) (Refused N.wrong-answer) (Accepted (moveOf (c .before .before .before .before .before .before .before .before .before .before .before .before .before .before .args .a)))) _ (c .before .packet-number .ensures) (c .if5 .taken))
 
 both-requires-3 : tie.Need-both-requires-3
 both-requires-3 c κs = search needs
 
 returns-6 : tie.Need-returns-6
 unfolding read
-returns-6 c = simp (← c .before .before .before .before .before .before .before .before .before .before .before .before .before .before .before .before .is-kind .ensures, c .before .before .before .before .before .before .before .before .before .before .before .before .before .before .before .if1 .left, ← c .before .before .before .before .before .before .before .before .before .before .before .before .before .before .is-clean .ensures, c .before .before .before .before .before .before .before .before .before .before .before .before .before .if2 .left, ← c .before .before .before .before .before .before .before .before .before .before .before .before .names-node .ensures, ← c .before .before .before .before .before .before .before .before .before .before .both .ensures, c .before .before .before .before .before .before .before .before .before .if3 .left, ← c .before .before .before .before .before .before .before .before .names-address .ensures, ← c .before .before .before .before .before .before .before .is-address .ensures, ← c .before .before .before .before .before .before .both2 .ensures, c .before .before .before .before .before .if4 .left, ← c .before .before .before .before .is-label .ensures, c .before .before .before .if5 .left, ← c .before .before .is-own .ensures, ← c .before .both3 .ensures, c .if6 .taken)
-
-both-requires-4 : tie.Need-both-requires-4
-both-requires-4 c κs = search needs
-
-returns-7 : tie.Need-returns-7
-unfolding read
-returns-7 c = simp (← c .before .before .before .before .before .before .before .before .before .before .before .before .before .before .before .before .before .before .before .before .is-kind .ensures, c .before .before .before .before .before .before .before .before .before .before .before .before .before .before .before .before .before .before .before .if1 .left, ← c .before .before .before .before .before .before .before .before .before .before .before .before .before .before .before .before .before .before .is-clean .ensures, c .before .before .before .before .before .before .before .before .before .before .before .before .before .before .before .before .before .if2 .left, ← c .before .before .before .before .before .before .before .before .before .before .before .before .before .before .before .before .names-node .ensures, ← c .before .before .before .before .before .before .before .before .before .before .before .before .before .before .both .ensures, c .before .before .before .before .before .before .before .before .before .before .before .before .before .if3 .left, ← c .before .before .before .before .before .before .before .before .before .before .before .before .names-address .ensures, ← c .before .before .before .before .before .before .before .before .before .before .before .is-address .ensures, ← c .before .before .before .before .before .before .before .before .before .before .both2 .ensures, c .before .before .before .before .before .before .before .before .before .if4 .left, ← c .before .before .before .before .before .before .before .before .is-label .ensures, c .before .before .before .before .before .before .before .if5 .left, ← c .before .before .before .before .before .before .is-own .ensures, ← c .before .before .before .before .before .both3 .ensures, c .before .before .before .before .if6 .left, ← c .before .both4 .ensures, c .if7 .taken)
+returns-6 c = simp (← c .before .before .before .before .before .before .before .before .before .before .before .before .before .before .before .before .before .is-kind .ensures, c .before .before .before .before .before .before .before .before .before .before .before .before .before .before .before .before .if1 .left, ← c .before .before .before .before .before .before .before .before .before .before .before .before .before .before .before .is-clean .ensures, c .before .before .before .before .before .before .before .before .before .before .before .before .before .before .if2 .left, ← c .before .before .before .before .before .before .before .before .before .before .before .before .before .names-node .ensures, ← c .before .before .before .before .before .before .before .before .before .before .before .both .ensures, c .before .before .before .before .before .before .before .before .before .before .if3 .left, ← c .before .before .before .before .before .before .before .before .before .names-address .ensures, ← c .before .before .before .before .before .before .before .before .is-address .ensures, ← c .before .before .before .before .before .before .before .both2 .ensures, c .before .before .before .before .before .before .if4 .left, ← c .before .both3 .ensures, c .if6 .taken) (sym (passed (c .before .before .before .before .before .before .before .before .before .before .before .before .before .before .before .before .before .before .args .a) _ (sym (c .before .before .before .before .before .packet-number .ensures) ∙ c .before .before .before .before .if5 .left)))
 
 move-of-requires : tie.Need-move-of-requires
 move-of-requires c κs = search needs
 
-returns-8 : tie.Need-returns-8
+returns-7 : tie.Need-returns-7
 unfolding read
-returns-8 c = simp (← c .before .before .before .before .before .before .before .before .before .before .before .before .before .before .before .before .before .before .before .before .before .is-kind .ensures, c .before .before .before .before .before .before .before .before .before .before .before .before .before .before .before .before .before .before .before .before .if1 .left, ← c .before .before .before .before .before .before .before .before .before .before .before .before .before .before .before .before .before .before .before .is-clean .ensures, c .before .before .before .before .before .before .before .before .before .before .before .before .before .before .before .before .before .before .if2 .left, ← c .before .before .before .before .before .before .before .before .before .before .before .before .before .before .before .before .before .names-node .ensures, ← c .before .before .before .before .before .before .before .before .before .before .before .before .before .before .before .both .ensures, c .before .before .before .before .before .before .before .before .before .before .before .before .before .before .if3 .left, ← c .before .before .before .before .before .before .before .before .before .before .before .before .before .names-address .ensures, ← c .before .before .before .before .before .before .before .before .before .before .before .before .is-address .ensures, ← c .before .before .before .before .before .before .before .before .before .before .before .both2 .ensures, c .before .before .before .before .before .before .before .before .before .before .if4 .left, ← c .before .before .before .before .before .before .before .before .before .is-label .ensures, c .before .before .before .before .before .before .before .before .if5 .left, ← c .before .before .before .before .before .before .before .is-own .ensures, ← c .before .before .before .before .before .before .both3 .ensures, c .before .before .before .before .before .if6 .left, ← c .before .before .both4 .ensures, c .before .if7 .left, c .move-of .ensures)
+returns-7 c = simp (← c .before .before .before .before .before .before .before .before .before .before .before .before .before .before .before .before .before .before .is-kind .ensures, c .before .before .before .before .before .before .before .before .before .before .before .before .before .before .before .before .before .if1 .left, ← c .before .before .before .before .before .before .before .before .before .before .before .before .before .before .before .before .is-clean .ensures, c .before .before .before .before .before .before .before .before .before .before .before .before .before .before .before .if2 .left, ← c .before .before .before .before .before .before .before .before .before .before .before .before .before .before .names-node .ensures, ← c .before .before .before .before .before .before .before .before .before .before .before .before .both .ensures, c .before .before .before .before .before .before .before .before .before .before .before .if3 .left, ← c .before .before .before .before .before .before .before .before .before .before .names-address .ensures, ← c .before .before .before .before .before .before .before .before .before .is-address .ensures, ← c .before .before .before .before .before .before .before .before .both2 .ensures, c .before .before .before .before .before .before .before .if4 .left, ← c .before .before .both3 .ensures, c .before .if6 .left, c .move-of .ensures) (sym (passed (c .before .before .before .before .before .before .before .before .before .before .before .before .before .before .before .before .before .before .before .args .a) _ (sym (c .before .before .before .before .before .before .packet-number .ensures) ∙ c .before .before .before .before .before .if5 .left)))
 
 pub decode-spec : {M : Type 1} → statement M
 decode-spec =
@@ -86,12 +81,9 @@ decode-spec =
     is-address-requires
     both-requires-2
     returns-4
-    is-label-requires
+    packet-number-requires
     returns-5
-    is-own-requires
     both-requires-3
     returns-6
-    both-requires-4
-    returns-7
     move-of-requires
-    returns-8)
+    returns-7)
