@@ -2,4 +2,3 @@ pub mod Little
 pub mod Round
 pub mod Walk
 pub mod Clean
-pub mod Looked

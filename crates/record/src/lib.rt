@@ -8,7 +8,7 @@ ghost use lib.Seq.{sets};
 ghost use Rattle.charts.specs.Records.{isKind, namesNode, namesAddress, clean, named, isAddress, isOwn, isLabel, moveOf, read};
 ghost use Rattle.record.specs.Bytes.{little, value, hasRoom, putAt};
 ghost use Rattle.record.specs.Layout.{bytesOf, actionAt};
-ghost use Rattle.record.specs.Looked.{packetNumber, numberOf};
+ghost use Rattle.record.specs.Looked.{numberOf};
 use charts::Action;
 use charts::Decoded;
 use charts::Head;
@@ -116,22 +116,6 @@ pub fn is_label(label: u8) -> bool
     label < 64
 }
 
-// What 13 and then 15 make of a request's packet, or 0. No other kind has one.
-fn packet_number(a: Action) -> u8
-    ensures { λ r. ⌜ r ≡ packetNumber a ⌝ }
-{
-    if a.kind != 1 {
-        return 0;
-    }
-    if !is_label(a.label) {
-        return WRONG_LABEL;
-    }
-    if is_own(a.node, a.address) {
-        return TO_ITSELF;
-    }
-    0
-}
-
 fn move_of(a: Action) -> Move
     ensures { λ r. ⌜ r ≡ moveOf a ⌝ }
 {
@@ -183,9 +167,13 @@ pub fn decode(n: u8, a: Action) -> Decoded
     if both(names_address(kind), !is_address(n, a.address)) {
         return Decoded::Refused(WRONG_ADDRESS);
     }
-    let number = packet_number(a);
-    if number != 0 {
-        return Decoded::Refused(number);
+    if kind == 1 {
+        if !is_label(a.label) {
+            return Decoded::Refused(WRONG_LABEL);
+        }
+        if is_own(a.node, a.address) {
+            return Decoded::Refused(TO_ITSELF);
+        }
     }
     if !both(a.ack < 16, a.hold < 2) {
         return Decoded::Refused(WRONG_ANSWER);

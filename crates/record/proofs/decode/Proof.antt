@@ -1,10 +1,7 @@
-use mathlib.Core.Path.{sym, _∙_}
-use mathlib.Core.Bool.{cond}
-use Rattle.charts.specs.declared.Decoded.the-variants.{Refused, Accepted}
-use Rattle.charts.specs.Numbers as N
-use Rattle.charts.specs.Records.{moveOf, badAnswer, read}
+use mathlib.Core.Logic.{⊎-elim}
+use Rattle.charts.specs.Records.{read}
 use borrow.Author.Needs.{needs}
-use Rattle.record.proofs.Looked.{refused-by, passed}
+use borrow.Author.Tests.{eq-eqb, ne-eqb}
 use Rattle.record.proofs.decode.Statement.{statement}
 use Rattle.record.proofs.decode.Tie as tie
 
@@ -45,26 +42,33 @@ returns-4 : tie.Need-returns-4
 unfolding read
 returns-4 c = simp (← c .before .before .before .before .before .before .before .before .before .before .before .is-kind .ensures, c .before .before .before .before .before .before .before .before .before .before .if1 .left, ← c .before .before .before .before .before .before .before .before .before .is-clean .ensures, c .before .before .before .before .before .before .before .before .if2 .left, ← c .before .before .before .before .before .before .before .names-node .ensures, ← c .before .before .before .before .before .both .ensures, c .before .before .before .before .if3 .left, ← c .before .before .before .names-address .ensures, ← c .before .before .is-address .ensures, ← c .before .both2 .ensures, c .if4 .taken)
 
-packet-number-requires : tie.Need-packet-number-requires
-packet-number-requires c κs = search needs
+is-label-requires : tie.Need-is-label-requires
+is-label-requires c κs = search needs
 
 returns-5 : tie.Need-returns-5
 unfolding read
-returns-5 c = simp (← c .before .before .before .before .before .before .before .before .before .before .before .before .before .is-kind .ensures, c .before .before .before .before .before .before .before .before .before .before .before .before .if1 .left, ← c .before .before .before .before .before .before .before .before .before .before .before .is-clean .ensures, c .before .before .before .before .before .before .before .before .before .before .if2 .left, ← c .before .before .before .before .before .before .before .before .before .names-node .ensures, ← c .before .before .before .before .before .before .before .both .ensures, c .before .before .before .before .before .before .if3 .left, ← c .before .before .before .before .before .names-address .ensures, ← c .before .before .before .before .is-address .ensures, ← c .before .before .before .both2 .ensures, c .before .before .if4 .left) (refused-by (c .before .before .before .before .before .before .before .before .before .before .before .before .before .before .args .a) (cond (badAnswer (c .before .before .before .before .before .before .before .before .before .before .before .before .before .before .args .a)) (Refused N.wrong-answer) (Accepted (moveOf (c .before .before .before .before .before .before .before .before .before .before .before .before .before .before .args .a)))) _ (c .before .packet-number .ensures) (c .if5 .taken))
+returns-5 c = simp (← c .before .before .before .before .before .before .before .before .before .before .before .before .before .before .is-kind .ensures, c .before .before .before .before .before .before .before .before .before .before .before .before .before .if1 .left, ← c .before .before .before .before .before .before .before .before .before .before .before .before .is-clean .ensures, c .before .before .before .before .before .before .before .before .before .before .before .if2 .left, ← c .before .before .before .before .before .before .before .before .before .before .names-node .ensures, ← c .before .before .before .before .before .before .before .before .both .ensures, c .before .before .before .before .before .before .before .if3 .left, ← c .before .before .before .before .before .before .names-address .ensures, ← c .before .before .before .before .before .is-address .ensures, ← c .before .before .before .before .both2 .ensures, c .before .before .before .if4 .left) (simp (eq-eqb _ _ (c .before .before .if5 .taken), ← c .before .is-label .ensures, c .if6 .taken))
+
+is-own-requires : tie.Need-is-own-requires
+is-own-requires c κs = search needs
+
+returns-6 : tie.Need-returns-6
+unfolding read
+returns-6 c = simp (← c .before .before .before .before .before .before .before .before .before .before .before .before .before .before .before .before .is-kind .ensures, c .before .before .before .before .before .before .before .before .before .before .before .before .before .before .before .if1 .left, ← c .before .before .before .before .before .before .before .before .before .before .before .before .before .before .is-clean .ensures, c .before .before .before .before .before .before .before .before .before .before .before .before .before .if2 .left, ← c .before .before .before .before .before .before .before .before .before .before .before .before .names-node .ensures, ← c .before .before .before .before .before .before .before .before .before .before .both .ensures, c .before .before .before .before .before .before .before .before .before .if3 .left, ← c .before .before .before .before .before .before .before .before .names-address .ensures, ← c .before .before .before .before .before .before .before .is-address .ensures, ← c .before .before .before .before .before .before .both2 .ensures, c .before .before .before .before .before .if4 .left) (simp (eq-eqb _ _ (c .before .before .before .before .if5 .taken), ← c .before .before .before .is-label .ensures, c .before .before .if6 .left, ← c .before .is-own .ensures, c .if7 .taken))
 
 both-requires-3 : tie.Need-both-requires-3
 both-requires-3 c κs = search needs
 
-returns-6 : tie.Need-returns-6
+returns-7 : tie.Need-returns-7
 unfolding read
-returns-6 c = simp (← c .before .before .before .before .before .before .before .before .before .before .before .before .before .before .before .before .before .is-kind .ensures, c .before .before .before .before .before .before .before .before .before .before .before .before .before .before .before .before .if1 .left, ← c .before .before .before .before .before .before .before .before .before .before .before .before .before .before .before .is-clean .ensures, c .before .before .before .before .before .before .before .before .before .before .before .before .before .before .if2 .left, ← c .before .before .before .before .before .before .before .before .before .before .before .before .before .names-node .ensures, ← c .before .before .before .before .before .before .before .before .before .before .before .both .ensures, c .before .before .before .before .before .before .before .before .before .before .if3 .left, ← c .before .before .before .before .before .before .before .before .before .names-address .ensures, ← c .before .before .before .before .before .before .before .before .is-address .ensures, ← c .before .before .before .before .before .before .before .both2 .ensures, c .before .before .before .before .before .before .if4 .left, ← c .before .both3 .ensures, c .if6 .taken) (sym (passed (c .before .before .before .before .before .before .before .before .before .before .before .before .before .before .before .before .before .before .args .a) _ (sym (c .before .before .before .before .before .packet-number .ensures) ∙ c .before .before .before .before .if5 .left)))
+returns-7 c = simp (← c .before .before .before .before .before .before .before .before .before .before .before .before .before .before .before .before .is-kind .ensures, c .before .before .before .before .before .before .before .before .before .before .before .before .before .before .before .if1 .left, ← c .before .before .before .before .before .before .before .before .before .before .before .before .before .before .is-clean .ensures, c .before .before .before .before .before .before .before .before .before .before .before .before .before .if2 .left, ← c .before .before .before .before .before .before .before .before .before .before .before .before .names-node .ensures, ← c .before .before .before .before .before .before .before .before .before .before .both .ensures, c .before .before .before .before .before .before .before .before .before .if3 .left, ← c .before .before .before .before .before .before .before .before .names-address .ensures, ← c .before .before .before .before .before .before .before .is-address .ensures, ← c .before .before .before .before .before .before .both2 .ensures, c .before .before .before .before .before .if4 .left, ← c .before .both3 .ensures, c .if8 .taken) (⊎-elim (λ w. simp (eq-eqb _ _ (w .0 .taken), ← w .1 .ensures, w .2 .left, ← w .3 .ensures, w .4 .left)) (λ w. simp (ne-eqb _ _ (w .left))) (c .before .before .before .before .if5 .came))
 
 move-of-requires : tie.Need-move-of-requires
 move-of-requires c κs = search needs
 
-returns-7 : tie.Need-returns-7
+returns-8 : tie.Need-returns-8
 unfolding read
-returns-7 c = simp (← c .before .before .before .before .before .before .before .before .before .before .before .before .before .before .before .before .before .before .is-kind .ensures, c .before .before .before .before .before .before .before .before .before .before .before .before .before .before .before .before .before .if1 .left, ← c .before .before .before .before .before .before .before .before .before .before .before .before .before .before .before .before .is-clean .ensures, c .before .before .before .before .before .before .before .before .before .before .before .before .before .before .before .if2 .left, ← c .before .before .before .before .before .before .before .before .before .before .before .before .before .before .names-node .ensures, ← c .before .before .before .before .before .before .before .before .before .before .before .before .both .ensures, c .before .before .before .before .before .before .before .before .before .before .before .if3 .left, ← c .before .before .before .before .before .before .before .before .before .before .names-address .ensures, ← c .before .before .before .before .before .before .before .before .before .is-address .ensures, ← c .before .before .before .before .before .before .before .before .both2 .ensures, c .before .before .before .before .before .before .before .if4 .left, ← c .before .before .both3 .ensures, c .before .if6 .left, c .move-of .ensures) (sym (passed (c .before .before .before .before .before .before .before .before .before .before .before .before .before .before .before .before .before .before .before .args .a) _ (sym (c .before .before .before .before .before .before .packet-number .ensures) ∙ c .before .before .before .before .before .if5 .left)))
+returns-8 c = simp (← c .before .before .before .before .before .before .before .before .before .before .before .before .before .before .before .before .before .is-kind .ensures, c .before .before .before .before .before .before .before .before .before .before .before .before .before .before .before .before .if1 .left, ← c .before .before .before .before .before .before .before .before .before .before .before .before .before .before .before .is-clean .ensures, c .before .before .before .before .before .before .before .before .before .before .before .before .before .before .if2 .left, ← c .before .before .before .before .before .before .before .before .before .before .before .before .before .names-node .ensures, ← c .before .before .before .before .before .before .before .before .before .before .before .both .ensures, c .before .before .before .before .before .before .before .before .before .before .if3 .left, ← c .before .before .before .before .before .before .before .before .before .names-address .ensures, ← c .before .before .before .before .before .before .before .before .is-address .ensures, ← c .before .before .before .before .before .before .before .both2 .ensures, c .before .before .before .before .before .before .if4 .left, ← c .before .before .both3 .ensures, c .before .if8 .left, c .move-of .ensures) (⊎-elim (λ w. simp (eq-eqb _ _ (w .0 .taken), ← w .1 .ensures, w .2 .left, ← w .3 .ensures, w .4 .left)) (λ w. simp (ne-eqb _ _ (w .left))) (c .before .before .before .before .before .if5 .came))
 
 pub decode-spec : {M : Type 1} → statement M
 decode-spec =
@@ -81,9 +85,11 @@ decode-spec =
     is-address-requires
     both-requires-2
     returns-4
-    packet-number-requires
+    is-label-requires
     returns-5
-    both-requires-3
+    is-own-requires
     returns-6
+    both-requires-3
+    returns-7
     move-of-requires
-    returns-7)
+    returns-8)
