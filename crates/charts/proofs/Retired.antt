@@ -1,17 +1,14 @@
 -- Request 10: no accepted request is to its own node. Assumes nothing.
-use mathlib.Core.Path.{_≡_, sym, ap, subst, _∙_}
+use mathlib.Core.Path.{_≡_, sym, ap, subst}
 use mathlib.Core.Logic.{⊎-elim}
 use mathlib.Core.Bool.{Bool, true, false}
-use mathlib.Core.List.{List, [], _∷_, List·Memᴰ, List·Memᴰ·cases-cons, List·Memᴰ·not-nil}
-use Prim.Native.Nat.{ℕ}
-use Rattle.charts.specs.declared.Packet.{Packet}
-use Rattle.charts.specs.declared.Report.{Report}
+use mathlib.Core.List.{List, [], _∷_, List·Memᴰ·cases-cons, List·Memᴰ·not-nil}
 use Rattle.charts.specs.declared.Move.{Move}
 use Rattle.charts.specs.declared.Move.the-variants.{Request, Reset}
 use Rattle.charts.specs.declared.Action.{Action}
 use Rattle.charts.specs.State.{State}
 use Rattle.charts.specs.Records.{isOwn}
-use Rattle.charts.specs.Step.{Result, Event, refusal, accepted, step, eventOf}
+use Rattle.charts.specs.Step.{Result, Event, refusal, accepted, step}
 use Rattle.charts.specs.Retired.{NoneToItself}
 use Rattle.charts.proofs.Tools.{never}
 use Rattle.charts.proofs.Steps.{Known, Stepped, refused, acts, stepped}

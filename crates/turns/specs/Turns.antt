@@ -1,9 +1,9 @@
 -- The rules of a trial (charts' Trials.antt) over what the code has: marks and numbers in arrays, and of one node its cell, its user and what is kept of it.
 -- (proofs/Rules.antt: of a trial's bus they are the rules.)
 use mathlib.Core.Path.{_≡_}
-use mathlib.Core.Bool.{Bool, true, false, cond, _&&_, _||_, not}
+use mathlib.Core.Bool.{Bool, false, cond, _&&_, _||_, not}
 use mathlib.Core.List.{List}
-use Prim.Native.Nat.{ℕ, suc, _-_, _<_, _≤_}
+use Prim.Native.Nat.{ℕ, suc, _-_, _≤_}
 use lib.Dec.{eqb, ltb}
 use lib.ListN.{getD, length}
 use Rattle.charts.specs.declared.Action.{Action}
