@@ -1,4 +1,6 @@
 // The answer to a question as text, put into a buffer that the caller lends.
+#![tactic(auto)]
+
 ghost use Rattle.std.specs.Prelude.{◌≡◌, ◌+◌, ◌≤◌, length};
 ghost use Rattle.transcript.specs.Room.{Puts, end_in, put_in};
 ghost use Rattle.answering.specs.Answering.{room, held, route_text, refused_text, answer_text};

@@ -1,4 +1,6 @@
 // The bus: a fresh one, and a step on any state by any action record.
+#![tactic(auto)]
+
 ghost use Rattle.std.specs.Prelude.{◌≡◌, ◌<◌};
 ghost use Rattle.charts.specs.State.{fresh};
 ghost use Rattle.charts.specs.Step.{begin, look, step, step_with};
@@ -163,7 +165,7 @@ pub fn advance(b: Bus, a: Action) -> Played
 }
 
 // The node that a record is about, and the record looked at.
-#[derive(Drop)]
+#[derive(Clone, Copy)]
 pub struct Aimed {
     pub node: u8,
     pub decoded: Decoded,

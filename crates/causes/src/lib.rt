@@ -1,4 +1,6 @@
 // Which part of a line is to blame for its fault, and why.
+#![tactic(auto)]
+
 ghost use Rattle.std.specs.Prelude.{◌≡◌, ◌<◌, ◌≤◌, length};
 ghost use Rattle.causes.specs.Blame.{is_missing, is_wrong, ends_with, is_at, first_in, after_last, words_before};
 ghost use Rattle.causes.specs.Blame.{word_in, statement_in, refusal_of, span, name_before, named_at, place_in_line, place_at, blamed, blame_in, blame_of};
@@ -25,7 +27,7 @@ const TOO_DEEP: u8 = 14;
 const TO_ITSELF: u8 = 15;
 
 // Why a line has a fault, and the part of it that is to blame: its bytes from a place up to another.
-#[derive(Drop)]
+#[derive(Clone, Copy)]
 pub struct Blamed {
     pub cause: Cause,
     pub from: usize,
@@ -34,7 +36,7 @@ pub struct Blamed {
 
 // What is looked for in a line: a comment's `#`, a blank, a byte of a word, a `*`, the last byte of a word with which the line is wrong already as one
 // of that text.
-#[derive(Drop)]
+#[derive(Clone, Copy)]
 enum Mark {
     Comment,
     Space,
@@ -44,7 +46,7 @@ enum Mark {
 }
 
 // A part of a line.
-#[derive(Drop)]
+#[derive(Clone, Copy)]
 struct Span {
     from: usize,
     to: usize,

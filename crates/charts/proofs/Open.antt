@@ -102,8 +102,8 @@ module _ (s : State) (v : valid s ≡ true) where
       go : (o : Outcome) → Opens o → is_accepted (carry_out s (about s m) o) ≡ true
       go o opens = refl
 
-  is_open : (a : Action) (m : Move) → move_of a ≡ m → read s.n a ≡ Accepted m → Opens (comes_to s m) → forward s m ≡ true → Found
-  is_open a m e q o f = (a, both _ _ (opens_it a m q o) (ap (forward s) e ∙ f))
+  is_open_lem : (a : Action) (m : Move) → move_of a ≡ m → read s.n a ≡ Accepted m → Opens (comes_to s m) → forward s m ≡ true → Found
+  is_open_lem a m e q o f = (a, both _ _ (opens_it a m q o) (ap (forward s) e ∙ f))
 
   read_request : (i : ℕ) → i < s.n → read s.n (to_all i) ≡ Accepted (Request i (nothing_to 63))
   unfolding read clean move_of
@@ -112,7 +112,7 @@ module _ (s : State) (v : valid s ≡ true) where
   -- a node that is Asked with a full buffer is decided
   decide_opens : (i : ℕ) → i < s.n → is_asked (s.cell i).mode ≡ true → is_empty (s.cell i).buffer ≡ false → Found
   unfolding move_of Actions.outcome Actions.decide
-  decide_opens i l e f = is_open (of_node 12 i) (Decide i) refl (read_named s.n 12 i refl refl refl l) (open_when (is_asked (s.cell i).mode) _ e (go (s.cell i).buffer f)) refl
+  decide_opens i l e f = is_open_lem (of_node 12 i) (Decide i) refl (read_named s.n 12 i refl refl refl l) (open_when (is_asked (s.cell i).mode) _ e (go (s.cell i).buffer f)) refl
     where
       go : (b : Buffer) → is_empty b ≡ false → Opens (Actions.decided s.phase i (s.cell i) b)
       go Empty f = absurd (true≢false f)
@@ -167,9 +167,9 @@ module _ (s : State) (v : valid s ≡ true) where
     holder_opens u b e = go (is_holding (s.cell i).mode) (is_answering (s.cell i).mode) refl refl
       where
         go : (x y : Bool) → is_holding (s.cell i).mode ≡ x → is_answering (s.cell i).mode ≡ y → Found
-        go true y p q = is_open (to_all i) (Request i (nothing_to 63)) refl (read_request i l) (pick Opens (is_rest (s.cell i).mode && is_empty (s.cell i).buffer) _ _ opens (open_when (is_holding (s.cell i).mode) _ p opens)) p
-        go false true p q = is_open (of_node 3 i) (Respond i 0 false) refl (read_named s.n 3 i refl refl refl l) (open_when (is_answering (s.cell i).mode && may_answer s.concatenated false) _ (both _ _ q (ap not (and_no s.concatenated))) opens) refl
-        go false false p q = is_open (of_node 4 i) (Clock i) refl (read_named s.n 4 i refl refl refl l) (open_now u _ (open_when (is_busy s.phase) _ (ap is_busy b) (clock_opens e))) (ap not (neither _ _ q p))
+        go true y p q = is_open_lem (to_all i) (Request i (nothing_to 63)) refl (read_request i l) (pick Opens (is_rest (s.cell i).mode && is_empty (s.cell i).buffer) _ _ opens (open_when (is_holding (s.cell i).mode) _ p opens)) p
+        go false true p q = is_open_lem (of_node 3 i) (Respond i 0 false) refl (read_named s.n 3 i refl refl refl l) (open_when (is_answering (s.cell i).mode && may_answer s.concatenated false) _ (both _ _ q (ap not (and_no s.concatenated))) opens) refl
+        go false false p q = is_open_lem (of_node 4 i) (Clock i) refl (read_named s.n 4 i refl refl refl l) (open_now u _ (open_when (is_busy s.phase) _ (ap is_busy b) (clock_opens e))) (ap not (neither _ _ q p))
 
   module _ (r : Reach s) (one : (j k : ℕ) → j < s.n → k < s.n → mem (place_of (s.cell j).mode) answerers ≡ true → mem (place_of (s.cell k).mode) answerers ≡ true → j ≡ k) where
     abbrev stray : ℕ → Bool
@@ -235,9 +235,9 @@ module _ (s : State) (v : valid s ≡ true) where
         go : some_asked s ≡ false → (p : Phase) → s.phase ≡ p → Stage s.concatenated p s.n s.cell → is_idle p ≡ false → Found
         go u Idle q a e = absurd (true≢false e)
         go u Busy q a e = busy_opens u q a
-        go u (Delivering w g j) q a e = is_open (of_node 5 0) (Carry Pass) refl refl (open_now u _ (subst (λ p. Opens (Actions.carry hears s.n p (s.cell (Actions.next_of p)) (pendings s.cell) Pass)) (sym q) opens)) refl
-        go u Granting q a e = is_open (of_node 8 0) Grant refl refl (open_now u _ (open_when (is_granting s.phase) _ (ap is_granting q) (pick Opens (some (pendings s.cell) s.n) _ _ opens opens))) refl
-        go u (Gapping j) q a e = is_open (of_node 9 0) GapNext refl refl (open_now u _ (subst (λ p. Opens (Actions.gap hears s.n p (s.cell (Actions.next_of p)))) (sym q) (pick Opens (ltb (suc j) s.n) _ _ opens opens))) refl
+        go u (Delivering w g j) q a e = is_open_lem (of_node 5 0) (Carry Pass) refl refl (open_now u _ (subst (λ p. Opens (Actions.carry hears s.n p (s.cell (Actions.next_of p)) (pendings s.cell) Pass)) (sym q) opens)) refl
+        go u Granting q a e = is_open_lem (of_node 8 0) Grant refl refl (open_now u _ (open_when (is_granting s.phase) _ (ap is_granting q) (pick Opens (some (pendings s.cell) s.n) _ _ opens opens))) refl
+        go u (Gapping j) q a e = is_open_lem (of_node 9 0) GapNext refl refl (open_now u _ (subst (λ p. Opens (Actions.gap hears s.n p (s.cell (Actions.next_of p)))) (sym q) (pick Opens (ltb (suc j) s.n) _ _ opens opens))) refl
 
 -- what is open is read as the record's move
 pub open_reads : (s : State) (a : Action) → is_open s a ≡ true → read s.n a ≡ Accepted (move_of a)

@@ -142,7 +142,7 @@ pub data Stepped (s : State) (a : Action) : Result → Event → Type 0 where
 
 pub stepped : (s : State) (a : Action) → Stepped s a (step s a) (event_of a (step s a))
 unfolding step look play
-stepped s a = pick_by (λ d. Stepped s a (step_with s d) (event_of a (step_with s d))) (valid s) _ _ (λ e. go e (read s.n a) (decodes s.n a)) (λ e. refused refl)
+stepped s a = pick_by (λ d. Stepped s a (step_with s d) (event_of a (step_with s d))) (valid s) (read s.n a) (Refused N.not_valid) (λ e. go e (read s.n a) (decodes s.n a)) (λ e. turn N.not_valid refl)
   where
     out : valid s ≡ true → Known s.n (move_of a) → may_act s (move_of a) ≡ true → (o : Outcome) → Effect s (move_of a) (about s (move_of a)) o → Stepped s a (carry_out s (about s (move_of a)) o) (event_of a (carry_out s (about s (move_of a)) o))
     out e k f closed x = refused refl

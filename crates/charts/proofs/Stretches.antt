@@ -51,8 +51,12 @@ data Single (n : ℕ) : Event → Type 0 where
 single : (s : State) {i : ℕ} {r : Report} {p : Phase} {c : Cell} {x : Marking} (n : ℕ) (m : Move) → (r ≡ Silent) ⊎ (node_of r < n) → Effect s m i (does r p c x) → Single n (accepted m r)
 single s n (Request j p) o (waits e f) = asked
 single s n (Request j p) o (replies e) = asked
+single s n (Request j p) o (Ways.wins e f g h) = elim e [ ]
+single s n (Request j p) o (Ways.loses e) = elim e [ ]
 single s n (Arbitrate j) o e = loud (record { no_entry = λ y b. refl; no_hold = λ i h. refl; no_request = λ i. refl; no_respond = refl }) o
 single s n (Respond j a h) o (Ways.gives e u) = answered
+single s n (Respond j a h) o (Ways.wins e f g h') = elim e [ ]
+single s n (Respond j a h) o (Ways.loses e) = elim e [ ]
 single s n (Clock j) o e = loud (record { no_entry = λ y b. refl; no_hold = λ i h. refl; no_request = λ i. refl; no_respond = refl }) o
 single s n (Carry w) o e = loud (record { no_entry = λ y b. refl; no_hold = λ i h. refl; no_request = λ i. refl; no_respond = refl }) o
 single s n Grant o e = loud (record { no_entry = λ y b. refl; no_hold = λ i h. refl; no_request = λ i. refl; no_respond = refl }) o

@@ -1,17 +1,19 @@
 // The types of the bench: document 01's packets, modes, signals, nodes and bus, its actions and reports.
 // The charts (specs/) and the code of the other crates share them. Nothing here runs.
+#![tactic(auto)]
+
 pub mod words;
 
 // What a Header signal carries, and what stays of it in packets, modes and reports: the header and the packet's transaction label, which
 // "travels with the packet through buffer, sending and reception, on the bus inside the Header signal".
-#[derive(Drop)]
+#[derive(Clone, Copy)]
 pub struct Head {
     pub header: u32,
     pub label: u8,
 }
 
 // A packet: its address (63: all nodes), its header with its label, and its datum.
-#[derive(Drop)]
+#[derive(Clone, Copy)]
 pub struct Packet {
     pub to: u8,
     pub head: Head,
@@ -19,21 +21,21 @@ pub struct Packet {
 }
 
 // What AckEnd remembers: "remembering a if it was a good Ack".
-#[derive(Drop)]
+#[derive(Clone, Copy)]
 pub enum Seen {
     Ack(u8),
     Nothing,
 }
 
 // What TailOwn and TailAll remember of the data: the datum if its check was good.
-#[derive(Drop)]
+#[derive(Clone, Copy)]
 pub enum Datum {
     Good(u32),
     Bad,
 }
 
 // A node's mode with what that mode remembers, in document 01's order, new modes last.
-#[derive(Drop)]
+#[derive(Clone, Copy)]
 pub enum Mode {
     Rest,
     AwaitAck,
@@ -60,7 +62,7 @@ pub enum Mode {
 }
 
 // The modes in which a node reads a packet, by name: a drop names the one that the node left.
-#[derive(Drop)]
+#[derive(Clone, Copy)]
 pub enum Reading {
     Opened,
     Addressed,
@@ -73,7 +75,7 @@ pub enum Reading {
 }
 
 // A signal. The bool of Header, Data and Ack is its check: true for good.
-#[derive(Drop)]
+#[derive(Clone, Copy)]
 pub enum Signal {
     Start,
     End,
@@ -87,14 +89,14 @@ pub enum Signal {
 }
 
 // "its buffer (one packet or empty)"
-#[derive(Drop)]
+#[derive(Clone, Copy)]
 pub enum Buffer {
     Empty,
     Full(Packet),
 }
 
 // A node's record: its mode, its buffer and the packet it is sending.
-#[derive(Drop)]
+#[derive(Clone, Copy)]
 pub struct Node {
     pub mode: Mode,
     pub buffer: Buffer,
@@ -102,7 +104,7 @@ pub struct Node {
 }
 
 // What the bus is in.
-#[derive(Drop)]
+#[derive(Clone, Copy)]
 pub enum Phase {
     Idle,
     Busy,
@@ -117,7 +119,7 @@ pub enum Phase {
 
 // The bus: n nodes, its phase, the nodes' records, four marks for each node and one of its own: an acknowledgement was closed by a Prefix,
 // and what its sender puts out next is concatenated to it.
-#[derive(Drop)]
+#[derive(Clone, Copy)]
 pub struct Bus {
     pub n: u8,
     pub phase: Phase,
@@ -130,7 +132,7 @@ pub struct Bus {
 }
 
 // A node's record with its four marks: all that the bus keeps of one node.
-#[derive(Drop)]
+#[derive(Clone, Copy)]
 pub struct Cell {
     pub mode: Mode,
     pub buffer: Buffer,
@@ -143,7 +145,7 @@ pub struct Cell {
 
 // A report with its node, or none. Sent, Acked and Miss end with the label of the packet that the node is sending; Good, Dcrc and Broad bear
 // that of the header they read. Drop names the mode that the node left.
-#[derive(Drop)]
+#[derive(Clone, Copy)]
 pub enum Report {
     Silent,
     Won(u8),
@@ -158,7 +160,7 @@ pub enum Report {
 }
 
 // What a signal makes of a node: its next mode, its report, and whether it is entered as pending.
-#[derive(Drop)]
+#[derive(Clone, Copy)]
 pub struct Heard {
     pub mode: Mode,
     pub report: Report,
@@ -166,7 +168,7 @@ pub struct Heard {
 }
 
 // A cell of the chart as a table: the next mode's place, the number of the report's first word, and whether a pending mark is made.
-#[derive(Drop)]
+#[derive(Clone, Copy)]
 pub struct Entry {
     pub place: u8,
     pub word: u8,
@@ -174,7 +176,7 @@ pub struct Entry {
 }
 
 // What a node does when it is clocked: nothing, end a holding that nobody hears, or put out a signal and go to a mode with a report.
-#[derive(Drop)]
+#[derive(Clone, Copy)]
 pub enum Output {
     Nothing,
     Frees,
@@ -182,7 +184,7 @@ pub enum Output {
 }
 
 // How a signal is carried to its next receiver: kinds 5, 6 and 7.
-#[derive(Drop)]
+#[derive(Clone, Copy)]
 pub enum Way {
     Pass,
     Lose,
@@ -190,7 +192,7 @@ pub enum Way {
 }
 
 // What arrives there: the way is not open, no signal, or a signal with whether it misleads the receiver.
-#[derive(Drop)]
+#[derive(Clone, Copy)]
 pub enum Arrival {
     Closed,
     Lost,
@@ -199,7 +201,7 @@ pub enum Arrival {
 
 // The marks that an action changes beyond its own node's: a Start clears the misled ones of all nodes, a reset the won ones;
 // the Prefix that closes an acknowledgement sets the bus's own mark, and the Gap that makes the bus Idle clears it.
-#[derive(Drop)]
+#[derive(Clone, Copy)]
 pub enum Marking {
     Nothing,
     Misled,
@@ -208,7 +210,7 @@ pub enum Marking {
 }
 
 // An action record as a run file has it. Byte 5 is the label; bytes 6 and 7 are its two zeros.
-#[derive(Drop)]
+#[derive(Clone, Copy)]
 pub struct Action {
     pub kind: u8,
     pub node: u8,
@@ -223,7 +225,7 @@ pub struct Action {
 }
 
 // An action whose fields are in their ranges.
-#[derive(Drop)]
+#[derive(Clone, Copy)]
 pub enum Move {
     Request { node: u8, packet: Packet },
     Arbitrate(u8),
@@ -238,14 +240,14 @@ pub enum Move {
 }
 
 // An action record looked at: the action, or the number of its refusal.
-#[derive(Drop)]
+#[derive(Clone, Copy)]
 pub enum Decoded {
     Refused(u8),
     Accepted(Move),
 }
 
 // What a step returns: 0 or the number of its refusal, its report and the bus.
-#[derive(Drop)]
+#[derive(Clone, Copy)]
 pub struct Played {
     pub number: u8,
     pub report: Report,
@@ -253,7 +255,7 @@ pub struct Played {
 }
 
 // What a fresh bus is asked for returns: 0 or the number of its refusal, and the bus.
-#[derive(Drop)]
+#[derive(Clone, Copy)]
 pub struct Begun {
     pub number: u8,
     pub bus: Bus,
@@ -261,7 +263,7 @@ pub struct Begun {
 
 // A user's settings in a load trial: its idle spell after a win in actions, the address that it sends to, the fillers before it answers, whether it holds,
 // and which of the signals that come to it are lost (each so many-th, 0: none).
-#[derive(Drop)]
+#[derive(Clone, Copy)]
 pub struct User {
     pub spell: u8,
     pub address: u8,
@@ -271,7 +273,7 @@ pub struct User {
 }
 
 // The settings of all nodes, one array for each; those of nodes from n on are not read.
-#[derive(Drop)]
+#[derive(Clone, Copy)]
 pub struct Users {
     pub spell: [u8; 63],
     pub address: [u8; 63],
@@ -282,7 +284,7 @@ pub struct Users {
 
 // The four numbers that a trial keeps for a user: what is left of its spell, the signals counted towards the next loss, the fillers made for the answer that it owes,
 // and its requests so far.
-#[derive(Drop)]
+#[derive(Clone, Copy)]
 pub struct Kept {
     pub left: u8,
     pub heard: u8,
@@ -291,7 +293,7 @@ pub struct Kept {
 }
 
 // What a trial counts: requests, wins, each kind of confirmation, drops.
-#[derive(Drop)]
+#[derive(Clone, Copy)]
 pub struct Tally {
     pub requests: u16,
     pub wins: u16,
@@ -302,7 +304,7 @@ pub struct Tally {
 }
 
 // A report's kind: its first word.
-#[derive(Drop)]
+#[derive(Clone, Copy)]
 pub enum Word {
     Won,
     Lost,
@@ -316,7 +318,7 @@ pub enum Word {
 }
 
 // What a route is to lead to: "a report kind with its node".
-#[derive(Drop)]
+#[derive(Clone, Copy)]
 pub struct Question {
     pub word: Word,
     pub node: u8,
@@ -324,7 +326,7 @@ pub struct Question {
 
 // What a search for a route answers: 0 or the number of its refusal; whether there is a route, and that route's records with their count. The other places
 // hold records of zeros.
-#[derive(Drop)]
+#[derive(Clone, Copy)]
 pub struct Answer {
     pub number: u8,
     pub found: bool,

@@ -1,5 +1,7 @@
 // A run in plain words on standard input, its run file on standard output; with `--lines`, which line says how many actions.
 // Its memory is constant: a part of the text, its line under way, a buffer of output, and the composer.
+#![tactic(auto)]
+
 ghost use Rattle.std.specs.Prelude.{◌≡◌, ◌≤◌, length};
 
 use composer::Composer;
@@ -8,7 +10,7 @@ use notation::{Stage, Text};
 use stream::Held;
 
 // What the arguments ask for: the run file, the spans of the lines, or what there is not.
-#[derive(Drop)]
+#[derive(Clone, Copy)]
 enum Asked {
     Blocks,
     Spans,
@@ -17,7 +19,7 @@ enum Asked {
 
 // The composer, what the output buffer holds, how many bytes of the line under way are read, and whether the text is over: by a fault, a failed
 // write or a failed read. The line is then still the one at fault.
-#[derive(Drop)]
+#[derive(Clone, Copy)]
 struct Reading {
     composer: Composer,
     held: Held,

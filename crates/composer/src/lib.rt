@@ -1,4 +1,6 @@
 // Composes a run file from the lines of a text, one block at a time.
+#![tactic(auto)]
+
 ghost use Rattle.std.specs.Prelude.{◌≡◌, ◌≤◌, replicate};
 ghost use Rattle.charts.specs.Records.{blank};
 ghost use Rattle.composer.specs.Composer.{stopped, on_line, to_put, nodes_taken, action_taken, line_taken, feed_of};
@@ -12,7 +14,7 @@ const BLOCKS: u64 = 4294967296;
 
 // The composer between two calls: the line last fed, n (0 before the `nodes` line), how many blocks are written, the records of the block
 // under way, and the action under way with how often it is still to be put.
-#[derive(Drop)]
+#[derive(Clone, Copy)]
 pub struct Composer {
     pub stage: Stage,
     pub line: u64,
@@ -25,7 +27,7 @@ pub struct Composer {
 }
 
 // A composer, and whether a block was written.
-#[derive(Drop)]
+#[derive(Clone, Copy)]
 pub struct Wrote {
     pub composer: Composer,
     pub written: bool,

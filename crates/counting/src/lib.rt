@@ -1,4 +1,6 @@
 // How many sequences of signals leave a node in which mode: for each length a row of 25 counts, by the reception chart's table, and their text.
+#![tactic(auto)]
+
 ghost use Rattle.std.specs.Prelude.{◌≡◌, ◌^◌, ◌≤◌, ◌<◌, length};
 ghost use Rattle.charts.specs.Sequences.{next_row};
 ghost use Rattle.link.specs.Reading.{cells};

@@ -1,4 +1,6 @@
 // Prints the counts of how many sequences of signals leave a node in which mode on standard output: a line for each length from 0 to 16.
+#![tactic(auto)]
+
 use stream::Held;
 
 // Writes the rows by way of a buffer.

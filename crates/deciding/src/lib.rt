@@ -1,4 +1,6 @@
 // The deciding functions: what an action comes to for the one node that it is about, made of the few values that it looks at. The bus's record is not handed in.
+#![tactic(auto)]
+
 ghost use Rattle.std.specs.Prelude.{◌≡◌};
 ghost use Rattle.charts.specs.View.{mark};
 ghost use Rattle.link.specs.Reading.{heard_by};

@@ -12,7 +12,7 @@ use charts::{Cell, Marking, Phase, Report};
 const NOT_OPEN: u8 = 7;
 
 // 0 or the number of the refusal, the report, the bus's next phase, the next cell of the node that the action is about, and the other marks changed.
-#[derive(Drop)]
+#[derive(Clone, Copy)]
 pub struct Plan {
     pub number: u8,
     pub report: Report,

@@ -1,4 +1,6 @@
 // What is wrong in a text, as a line with its cause, put into a buffer that the caller lends, from a place on.
+#![tactic(auto)]
+
 mod words;
 mod write;
 
@@ -7,7 +9,7 @@ ghost use Rattle.transcript.specs.Room.{end_in, put_in};
 ghost use Rattle.faults.specs.Faults.{longest, fault_line};
 
 // What is wrong in a line of a text or in a text. A refusal has the paper's number.
-#[derive(Drop)]
+#[derive(Clone, Copy)]
 pub enum Fault {
     UnknownWord,
     NotNumber,
@@ -27,7 +29,7 @@ pub enum Fault {
 }
 
 // What more can be said of a fault, with a part of its line beside it.
-#[derive(Drop)]
+#[derive(Clone, Copy)]
 pub enum Cause {
     // Nothing.
     Plain,

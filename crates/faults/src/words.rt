@@ -7,7 +7,7 @@ ghost use Rattle.faults.specs.Faults.{of_first, field_of, setting_words, questio
 use crate::{Cause, Fault, write};
 
 // What a hint looks for in a word: bytes of no text, a no-break space, a `*`.
-#[derive(Drop)]
+#[derive(Clone, Copy)]
 enum Trait {
     Control,
     NoBreak,

@@ -1,4 +1,6 @@
 // The fields of a line in plain words: each reads on from a cursor.
+#![tactic(auto)]
+
 ghost use Rattle.std.specs.Prelude.{◌≡◌};
 ghost use Rattle.words.specs.Cursors.{tokens_left};
 ghost use Rattle.fields.specs.Fields.{seen, fault_of, field_fits, is_word, numeral, number_in, address_at, address_in, address_or_none, said_in, to_in, hold_in};
@@ -17,7 +19,7 @@ pub const LONG: u32 = 4294967295;
 const EVERYBODY: u32 = 63;
 
 // A field of a line: its value and the place after it, or what is wrong.
-#[derive(Drop)]
+#[derive(Clone, Copy)]
 pub enum Field {
     Is(u32, Cursor),
     Bad(Fault),

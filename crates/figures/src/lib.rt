@@ -1,4 +1,6 @@
 // A line of figures as text, put into a buffer that the caller lends, from a place on.
+#![tactic(auto)]
+
 ghost use Rattle.std.specs.Prelude.{◌≡◌, ◌+◌, ◌≤◌, length};
 ghost use Rattle.transcript.specs.Room.{Puts, end_in, put_in};
 ghost use Rattle.figures.specs.Figures.{figures_line, room_for};

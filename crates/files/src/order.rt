@@ -14,7 +14,7 @@ const FULL: u8 = 31;
 const LAST_NUMBER: u32 = 4294967295;
 
 // How far a file has been read: before block 0, after a block (its number and its count), or to its end by a refusal.
-#[derive(Drop)]
+#[derive(Clone, Copy)]
 pub enum Stage {
     Unopened,
     After { number: u32, count: u8 },

@@ -1,4 +1,6 @@
 // A question in plain words on standard input, a run and then a line `find`; its answer on standard output.
+#![tactic(auto)]
+
 ghost use Rattle.std.specs.Prelude.{◌≡◌, ◌≤◌, length};
 
 use charts::Answer;
@@ -7,7 +9,7 @@ use notation::{Stage, Text};
 use stream::Held;
 
 // The question, how many bytes the line has that was read last, and whether no read failed.
-#[derive(Drop)]
+#[derive(Clone, Copy)]
 struct Reading {
     finder: Finder,
     len: usize,

@@ -1,4 +1,6 @@
 // Reads a question, a run and then a line `find`, from the lines of a text. The run is played while it is read.
+#![tactic(auto)]
+
 ghost use Rattle.std.specs.Prelude.{◌≡◌};
 ghost use Rattle.charts.specs.View.{view};
 ghost use Rattle.charts.specs.View as View;
@@ -10,7 +12,7 @@ use faults::Fault;
 use notation::{Line, Stage, Text};
 
 // A question between two calls: the line last fed, the bus that the run has left (its n is 0 before the `nodes` line), whether the line `find` was fed, and what it asks.
-#[derive(Drop)]
+#[derive(Clone, Copy)]
 pub struct Finder {
     pub stage: Stage,
     pub line: u64,

@@ -1,4 +1,6 @@
 // One node's link layer: what it does with a signal, what it puts out when it is clocked, and what arrives of a signal on its way to it.
+#![tactic(auto)]
+
 ghost use Rattle.std.specs.Prelude.{◌≡◌};
 ghost use Rattle.charts.specs.Outputs.{output, puts, sends, acks};
 ghost use Rattle.charts.specs.Arrivals.{arrives, passed, lost, changed};

@@ -166,7 +166,7 @@ pub fn granted(mode: Mode) -> Mode
 }
 
 // What a mode remembers of the signals that led to it: an acknowledgement, a header, a datum; 0 for what it does not.
-#[derive(Drop)]
+#[derive(Clone, Copy)]
 pub struct Kept {
     pub ack: u8,
     pub head: Head,

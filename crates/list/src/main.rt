@@ -1,5 +1,7 @@
 // The run file on standard input as a run in plain words on standard output.
 // Its memory is constant: a block of input, the text of a block, a buffer of output, and how far the file is read.
+#![tactic(auto)]
+
 use stream::Held;
 use walk::reading::Reading;
 
@@ -7,7 +9,7 @@ use walk::reading::Reading;
 const PIECES: u64 = 4294967297;
 
 // How far some pieces were read, what the output buffer holds, and whether it is over: by a refusal, a failed write or a failed read.
-#[derive(Drop)]
+#[derive(Clone, Copy)]
 struct Went {
     reading: Reading,
     held: Held,

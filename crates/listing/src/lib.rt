@@ -1,4 +1,6 @@
 // A run file in plain words, block by block: each piece of 512 bytes that is fed becomes text in a buffer that the caller lends.
+#![tactic(auto)]
+
 mod block;
 
 ghost use Rattle.std.specs.Prelude.{◌≡◌, ◌≤◌, length};

@@ -1,4 +1,6 @@
 // The reception chart's table as text, from the rules.
+#![tactic(auto)]
+
 ghost use Rattle.std.specs.Prelude.{◌≡◌, ◌≤◌, length};
 ghost use Rattle.transcript.specs.Room.{put};
 ghost use Rattle.maker.specs.Printed.{byte_after, table_text};

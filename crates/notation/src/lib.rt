@@ -1,4 +1,6 @@
 // Runs, settings and questions in plain words: what each line says that people write.
+#![tactic(auto)]
+
 mod grammar;
 
 ghost use Rattle.std.specs.Prelude.{◌≡◌, ◌≤◌, length};
@@ -14,7 +16,7 @@ const WRONG_SIZE: u8 = 1;
 const LAST_LINE: u64 = 18446744073709551615;
 
 // What a text is of: a run, the settings of a load trial, or a run and a question about it.
-#[derive(Drop)]
+#[derive(Clone, Copy)]
 pub enum Text {
     Run,
     Settings,
@@ -23,7 +25,7 @@ pub enum Text {
 
 // What a line says: nothing, the number of nodes, an action with how often it is repeated, the number of actions, a node's user, a question with the depth
 // of its search, or what is wrong.
-#[derive(Drop)]
+#[derive(Clone, Copy)]
 pub enum Line {
     Blank,
     Nodes(u8),
@@ -35,7 +37,7 @@ pub enum Line {
 }
 
 // Whether the reader of a text goes on, or a fault has stopped it.
-#[derive(Drop)]
+#[derive(Clone, Copy)]
 pub enum Stage {
     Going,
     Stopped(Fault),

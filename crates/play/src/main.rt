@@ -1,5 +1,7 @@
 // Plays the run file on standard input and prints its text on standard output.
 // Its memory is constant: 128 blocks of input, as much output, the text of one block, and the player.
+#![tactic(auto)]
+
 ghost use Rattle.std.specs.Prelude.{◌<◌, ◌≤◌};
 
 use player::Player;
@@ -11,7 +13,7 @@ const BLOCK: usize = 512;
 const CHUNKS: u32 = 33554433;
 
 // The player after some input, what the output buffer holds, and whether the run is over: by a refusal, a failed write or a failed read.
-#[derive(Drop)]
+#[derive(Clone, Copy)]
 struct Went {
     player: Player,
     held: Held,

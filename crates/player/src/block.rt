@@ -26,7 +26,7 @@ pub(crate) fn opening(stage: Stage, b: Bus, n: u8) -> Bus
 }
 
 // The bus after actions, the place after their text, and whether one of them was refused.
-#[derive(Drop)]
+#[derive(Clone, Copy)]
 pub(crate) struct Part {
     pub bus: Bus,
     pub end: usize,

@@ -1,4 +1,6 @@
 // Plays a run file block by block: each piece of 512 bytes that it is fed becomes text in a buffer that the caller lends.
+#![tactic(auto)]
+
 mod block;
 
 ghost use Rattle.std.specs.Prelude.{◌≡◌, ◌≤◌, length};
@@ -14,14 +16,14 @@ use files::order::Stage;
 use walk::Found;
 
 // The player between two pieces: the bus, and how far the file has been played.
-#[derive(Drop)]
+#[derive(Clone, Copy)]
 pub struct Player {
     pub bus: Bus,
     pub stage: Stage,
 }
 
 // What a piece gives: the player after it, how many bytes of text it put, and whether a refusal has ended the run.
-#[derive(Drop)]
+#[derive(Clone, Copy)]
 pub struct Fed {
     pub player: Player,
     pub end: usize,

@@ -1,4 +1,6 @@
 // Questions about states handed in, as bytes on standard input (tests/README.md), 384 bytes each; the answers on standard output, an empty line after each.
+#![tactic(auto)]
+
 ghost use Rattle.std.specs.Prelude.{◌≡◌, ◌≤◌, length};
 
 use charts::{Buffer, Bus, Datum, Head, Mode, Node, Packet, Phase, Question, Seen, Signal, Word};

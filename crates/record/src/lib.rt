@@ -1,4 +1,6 @@
 // An action record: its 16 bytes ("Run files"), and what the numbers 2 to 5, 13, 15 and 6 make of it.
+#![tactic(auto)]
+
 ghost use Rattle.std.specs.Prelude.{◌≡◌, true, cond, ◌&&◌, ◌||◌, [], ◌∷◌, ◌+◌, ◌<◌, ◌≤◌, length};
 ghost use Rattle.std.proofs.lemmas.List.Edits.{sets};
 ghost use Rattle.charts.specs.Records.{is_kind, names_node, names_address, clean, named, is_address, is_own, is_label, move_of, read};

@@ -1,4 +1,6 @@
 // Any list of action records, played from the fresh bus for n, one step after the other, after a refusal as well. Its contract states demand 3.
+#![tactic(auto)]
+
 ghost use Rattle.std.specs.Prelude.{◌≡◌, ◌≤◌, eqb};
 ghost use Rattle.charts.specs.Demand.{one};
 ghost use Rattle.charts.specs.View.{view};
@@ -7,7 +9,7 @@ ghost use Rattle.replay.specs.Replay.{records_in, seen_replay, played_on, Replay
 use charts::Bus;
 
 // What a replay returns: 1 where n was refused, else 0; how many actions were accepted; and the bus that the last one left.
-#[derive(Drop)]
+#[derive(Clone, Copy)]
 pub struct Replayed {
     pub number: u8,
     pub accepted: usize,

@@ -1,4 +1,6 @@
 // A route to an outcome: which bus events, actions of kinds 4 to 9, lead from a state to a report of a node, and which of these lists is the first.
+#![tactic(auto)]
+
 mod choices;
 mod search;
 

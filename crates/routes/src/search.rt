@@ -10,7 +10,7 @@ use charts::{Action, Bus, Question, Report, Word, words};
 use deciding::bools::both;
 
 // Whether a route was found, and its records in their places.
-#[derive(Drop)]
+#[derive(Clone, Copy)]
 pub(crate) struct Trail {
     pub found: bool,
     pub actions: [Action; 6],

@@ -1,4 +1,6 @@
 // Run files: a block of 512 bytes read and written ("Run files", numbers 1, 8, 9 and 11).
+#![tactic(auto)]
+
 ghost use Rattle.std.specs.Prelude.{◌≡◌, true, cond, ◌&&◌, ◌+◌, ◌*◌, ◌/◌, ◌<◌, ◌≤◌, eqb, length, take};
 ghost use Rattle.std.proofs.lemmas.List.Edits.{sets};
 ghost use Rattle.std.proofs.Math.Seq.{slice};
@@ -22,7 +24,7 @@ const WRONG_COUNT: u8 = 11;
 const MODULUS: u32 = 65521;
 
 // What a reading of a block's head gives: "number, count and n, or the refusal".
-#[derive(Drop)]
+#[derive(Clone, Copy)]
 pub enum BlockHead {
     Holds { number: u32, count: u8, n: u8 },
     Refused(u8),
@@ -237,7 +239,7 @@ pub fn action_sums(block: &[u8]) -> [u64; 31]
 }
 
 // What a write gives beside the block: 0 or the number of its refusal, and the sums of the block's actions.
-#[derive(Drop)]
+#[derive(Clone, Copy)]
 pub struct Traced {
     pub refusal: u8,
     pub sums: [u32; 31],
@@ -286,7 +288,7 @@ fn store_bytes(out: &mut [u8], at: usize, bytes: &[u8])
 
 // What the actions of a block give when they are taken: 0 or the number of the first refusal, a block with nothing but the actions in it,
 // the sum of their bytes, and the sums for tracing.
-#[derive(Drop)]
+#[derive(Clone, Copy)]
 struct Summed {
     refusal: u8,
     block: [u8; 512],

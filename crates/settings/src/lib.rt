@@ -1,4 +1,6 @@
 // Reads the settings of a load trial from the lines of a text.
+#![tactic(auto)]
+
 ghost use Rattle.std.specs.Prelude.{◌≡◌};
 ghost use Rattle.settings.specs.Settings.{stopped, on_line, with_user, user_stage, nodes_taken, actions_taken, user_taken, line_taken, feed_of, finish_of, started};
 
@@ -15,7 +17,7 @@ const WRONG_ADDRESS: u8 = 5;
 const TO_ITSELF: u8 = 15;
 
 // The settings between two calls: the line last fed, n (0 before the `nodes` line), the number of actions, and the users.
-#[derive(Drop)]
+#[derive(Clone, Copy)]
 pub struct Settings {
     pub stage: Stage,
     pub line: u64,

@@ -1,5 +1,7 @@
 // Standard output and input in large parts, by way of buffers that the caller lends, and lines in such a buffer.
 // A failed write or read is told, never passed over. Whether one fails is the operating system's answer, which no contract can say: `whole` holds it.
+#![tactic(auto)]
+
 ghost use Rattle.std.specs.Prelude.{◌≡◌, true, cond, ◌&&◌, ◌+◌, ◌-◌, ◌≤◌, ◌<◌, length};
 ghost use Rattle.std.proofs.lemmas.List.Edits.{sets};
 ghost use Rattle.io.specs.Counts.{IsPrefixLen};
@@ -11,28 +13,28 @@ use libc::{STDIN_FILENO, STDOUT_FILENO};
 const NEWLINE: u8 = 10;
 
 // How many bytes of text a buffer holds, and whether every write so far was taken. Once one was not, nothing more is held or written.
-#[derive(Drop)]
+#[derive(Clone, Copy)]
 pub struct Held {
     pub used: usize,
     pub whole: bool,
 }
 
 // How many bytes were read, and whether no read failed: after a failed one more may follow.
-#[derive(Drop)]
+#[derive(Clone, Copy)]
 pub struct Filled {
     pub count: usize,
     pub whole: bool,
 }
 
 // The bytes of a buffer that are not taken yet.
-#[derive(Drop)]
+#[derive(Clone, Copy)]
 pub struct Place {
     pub at: usize,
     pub end: usize,
 }
 
 // The place after some bytes, how many the line then has, and whether its newline was met.
-#[derive(Drop)]
+#[derive(Clone, Copy)]
 pub struct Taken {
     pub place: Place,
     pub len: usize,

@@ -8,7 +8,7 @@ ghost use Rattle.summing.specs.Summed.{tracing, looked_part};
 use walk::reading::Part;
 
 // The first action that is refused: its index and the number; 0 if there is none.
-#[derive(Drop)]
+#[derive(Clone, Copy)]
 pub(crate) struct Looked {
     pub index: u64,
     pub number: u8,

@@ -1,4 +1,6 @@
 // Prints the reception chart's table on standard output: a line for each mode, from the rules.
+#![tactic(auto)]
+
 use stream::Held;
 
 // Writes the table by way of a buffer.

@@ -1,4 +1,6 @@
 // The tally of a load trial as text, put into a buffer that the caller lends.
+#![tactic(auto)]
+
 ghost use Rattle.std.specs.Prelude.{◌≡◌, [], ◌∷◌, ◌+◌, ◌≤◌, length};
 ghost use Rattle.transcript.specs.Room.{Puts, end_in, put_in};
 ghost use Rattle.transcript.specs.Lines.{line};

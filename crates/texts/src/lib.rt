@@ -1,4 +1,6 @@
 // Texts on standard input, line by line, and what is wrong in them on standard error: for `compose` and `trial`.
+#![tactic(auto)]
+
 ghost use Rattle.std.specs.Prelude.{◌≡◌, ◌≤◌, length};
 
 use faults::Fault;
@@ -8,7 +10,7 @@ use stream::Place;
 
 // A text that is read: the bytes of the buffer that are not taken, how many bytes its line has and whether there is one, whether the input has ended, and
 // whether no read failed.
-#[derive(Drop)]
+#[derive(Clone, Copy)]
 pub struct Lines {
     pub place: Place,
     pub len: usize,

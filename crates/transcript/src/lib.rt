@@ -1,6 +1,8 @@
 // The lines of a run as text ("A run printed") and of its actions, put into a buffer that the caller lends, from a place on.
 // Each function answers the place after its line. Where fewer than 64 bytes are left it puts nothing and answers the place it was given.
 // Words and figures can be put one by one too, each where it has room.
+#![tactic(auto)]
+
 mod text;
 mod words;
 

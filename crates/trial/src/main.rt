@@ -1,4 +1,6 @@
 // The settings of a load trial in plain words on standard input; its run file on standard output, its tally on standard error.
+#![tactic(auto)]
+
 ghost use Rattle.std.specs.Prelude.{◌≡◌, ◌≤◌, length};
 
 use charts::Tally;
@@ -8,7 +10,7 @@ use settings::Settings;
 use stream::Held;
 
 // The settings, how many bytes the line has that was read last, and whether no read failed.
-#[derive(Drop)]
+#[derive(Clone, Copy)]
 struct Reading {
     settings: Settings,
     len: usize,

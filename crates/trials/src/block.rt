@@ -8,7 +8,7 @@ ghost use Rattle.trials.specs.Trying.{StandsAt, part};
 use charts::{Bus, Tally, Users};
 
 // A trial under way: the bus, what is kept of each user, and the tally.
-#[derive(Drop)]
+#[derive(Clone, Copy)]
 pub(crate) struct Trial {
     pub bus: Bus,
     pub left: [u8; 63],
@@ -19,7 +19,7 @@ pub(crate) struct Trial {
 }
 
 // The trial after some actions, and their records.
-#[derive(Drop)]
+#[derive(Clone, Copy)]
 pub(crate) struct Made {
     pub trial: Trial,
     pub records: [u8; 496],

@@ -1,4 +1,6 @@
 // Load trials (docs/TRIALS.md).
+#![tactic(auto)]
+
 mod block;
 
 ghost use Rattle.std.specs.Prelude.{◌≡◌, true, cond, ◌+◌, ◌≤◌, ltb, length};
@@ -24,14 +26,14 @@ const WRONG_COUNT: u8 = 11;
 const TO_ITSELF: u8 = 15;
 
 // What a trial gives beside its run file and the lent tally: 0 or the number of its refusal, and how many bytes the run file has.
-#[derive(Drop)]
+#[derive(Clone, Copy)]
 pub struct Answer {
     pub number: u8,
     pub size: usize,
 }
 
 // The same with the tally.
-#[derive(Drop)]
+#[derive(Clone, Copy)]
 pub struct Tried {
     pub number: u8,
     pub size: usize,
@@ -39,7 +41,7 @@ pub struct Tried {
 }
 
 // Whether the address of some node is neither below n nor 63, and whether that of some node is its own number.
-#[derive(Drop)]
+#[derive(Clone, Copy)]
 struct Addresses {
     stray: bool,
     own: bool,

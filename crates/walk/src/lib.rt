@@ -1,5 +1,7 @@
 // A run file walked from block to block and from action to action: the text that comes of it, whatever is done with each block and each action.
 // `player`, `listing` and `summing` are the walks; here is what they have in common.
+#![tactic(auto)]
+
 pub mod reading;
 
 ghost use Rattle.std.specs.Prelude.{◌≡◌, ◌≤◌, length};
@@ -15,14 +17,14 @@ use runfile::BlockHead;
 const WRONG_LENGTH: u8 = 8;
 
 // What is found in a piece of a file: the next block, or nothing, because it is refused or comes after a refusal.
-#[derive(Drop)]
+#[derive(Clone, Copy)]
 pub enum Found {
     Nothing,
     Block { number: u32, count: u8, n: u8 },
 }
 
 // What is found, and how many bytes of text were put.
-#[derive(Drop)]
+#[derive(Clone, Copy)]
 pub struct Entered {
     pub found: Found,
     pub end: usize,

@@ -6,14 +6,14 @@ use files::order;
 use files::order::Stage;
 
 // Such a walk between two pieces.
-#[derive(Drop)]
+#[derive(Clone, Copy)]
 pub struct Reading {
     pub n: u8,
     pub stage: Stage,
 }
 
 // What a piece gives: the walk after it, how many bytes of text it put, and whether a refusal has ended the walk.
-#[derive(Drop)]
+#[derive(Clone, Copy)]
 pub struct Fed {
     pub reading: Reading,
     pub end: usize,
@@ -21,7 +21,7 @@ pub struct Fed {
 }
 
 // What a block's actions give: the place after their text, and whether one of them was refused.
-#[derive(Drop)]
+#[derive(Clone, Copy)]
 pub struct Part {
     pub end: usize,
     pub ended: bool,

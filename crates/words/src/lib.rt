@@ -1,4 +1,6 @@
 // The words of a line, one after the other, and what each of them is.
+#![tactic(auto)]
+
 ghost use Rattle.std.specs.Prelude.{◌≡◌, false, [], ◌∷◌, ◌+◌, ◌-◌, ◌<◌, ◌≤◌, length, take, drop, get_or};
 ghost use Rattle.words.specs.Words.{is_blank, ends_word, same, names, name_of, digit_of, digits_of, is_hex, token_of, limit, capped, value_of};
 ghost use Rattle.words.specs.Cursors.{tokens_left, stepped};
@@ -35,13 +37,13 @@ pub const BROAD: u8 = 33;
 const LIMIT: u64 = 4294967296;
 
 // A place in a line.
-#[derive(Drop)]
+#[derive(Clone, Copy)]
 pub struct Cursor {
     pub at: usize,
 }
 
 // What a word is: a name by its place among the names (0: unknown), a number, or a number over 32 bits.
-#[derive(Drop)]
+#[derive(Clone, Copy)]
 pub enum Token {
     Word(u8),
     Number(u32),
@@ -49,7 +51,7 @@ pub enum Token {
 }
 
 // What reading at a cursor finds: no word, or a word and the place after it.
-#[derive(Drop)]
+#[derive(Clone, Copy)]
 pub enum Step {
     End,
     Read(Token, Cursor),
