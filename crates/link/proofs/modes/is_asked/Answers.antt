@@ -1,0 +1,5 @@
+use borrow.Author.Rules.{rules}
+use Rattle.link.proofs.modes.is_asked.Goals as goal
+
+pub returns : goal.returns
+returns c = simp c.place_of.ensures
