@@ -1,5 +1,4 @@
 use Rattle.charts.specs.Arrivals.{arrives}
-use borrow.Author.Rules.{rules}
 use Rattle.link.proofs.arrive.Goals as goal
 
 pub returns-in-Pass : goal.returns-in-Pass

@@ -1,5 +1,4 @@
 use Rattle.charts.specs.Outputs.{output}
-use borrow.Author.Rules.{rules}
 use Rattle.link.proofs.emit.Goals as goal
 
 pub returns-in-Rest : goal.returns-in-Rest

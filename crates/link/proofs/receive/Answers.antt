@@ -3,7 +3,6 @@ use Prim.Native.Nat.{◌<◌}
 use Rattle.charts.proofs.Places.{place_lt, class-lt}
 use Rattle.link.specs.Reading.{heard_by}
 use borrow.Author.Tests.{eq-eqb, ne_eqb}
-use borrow.Author.Rules.{rules}
 use Rattle.link.proofs.receive.Goals as goal
 
 pub cell_at-cell-requires : goal.cell_at-cell-requires
@@ -15,4 +14,4 @@ returns-then-cell-place c = simp (← c.place_of-place.ensures, ← c.class_of.e
 
 pub returns : goal.returns
 unfolding heard_by
-returns c = simp (← c.place_of-place.ensures, ← c.class_of.ensures, ← c.cell_at-cell.ensures, ne_eqb _ _ c.if-cell-place.false, c.remembered-kept.ensures, c.IsPlace-in.ensures, c.enter.ensures, c.word_in.ensures, c.say.ensures, c.pends_in.ensures)
+returns c = simp (← c.place_of-place.ensures, ← c.class_of.ensures, ← c.cell_at-cell.ensures, ne_eqb _ _ c.if-cell-place.false, c.remembered-kept.ensures, c.place_in-next.ensures, c.enter.ensures, c.word_in.ensures, c.say.ensures, c.pends_in.ensures)

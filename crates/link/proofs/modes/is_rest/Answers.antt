@@ -1,4 +1,3 @@
-use borrow.Author.Rules.{rules}
 use Rattle.link.proofs.modes.is_rest.Goals as goal
 
 pub returns : goal.returns

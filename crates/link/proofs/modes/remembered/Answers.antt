@@ -1,4 +1,3 @@
-use borrow.Author.Rules.{rules}
 use Rattle.link.proofs.modes.remembered.Goals as goal
 
 pub returns-in-Rest : goal.returns-in-Rest

@@ -1,8 +1,8 @@
-use mathlib.Core.Logic.{⊎_elim}
+use Rattle.std.proofs.Common.{◌<◌, ◌≤◌, ◌≢◌, arith}
 use borrow.Author.Tests.{ne_eqb, lt-ltb, le-ltb}
-use borrow.Author.Rules.{rules}
 use Rattle.link.proofs.Ruled.{spurious_rule}
 use Rattle.link.proofs.rules.rule.Goals as goal
+use Rattle.link.proofs.rules.rule.Goals.{in_default-class-12-via-then-class-lt1, in_default-class-12-via-else-class-lt1+else-class-lt3-3, in_default-class-13-via-then-class-lt1-2, in_default-class-13-via-else-class-lt1-2+else-class-lt3-4, in_default-class-14-via-then-class-lt1-3, in_default-class-14-via-else-class-lt1-3+else-class-lt3-5, in_default-class-15-via-then-class-lt1-4, in_default-class-15-via-else-class-lt1-4+else-class-lt3-6}
 
 pub returns-in-0-class : goal.returns-in-0-class
 returns-in-0-class c = simp (c.in-0.is, c.in-0-class.is, c.goes.ensures)
@@ -29,10 +29,18 @@ pub returns-in-12-class : goal.returns-in-12-class
 returns-in-12-class c = simp (c.in-2.is, c.in-12-class.is, c.goes-in-12-class.ensures)
 
 pub returns-in-0-to-2 : goal.returns-in-0-to-2
-returns-in-0-to-2 c = simp (c.in-2.is, ne_eqb _ _ c.in_default-1.rest.0.1, ne_eqb _ _ c.in_default-1.rest.1, lt-ltb _ _ c.in-0-to-2.true, c.tells-in-0-to-2.ensures)
+returns-in-0-to-2 c =
+    let no_gap : c.args.class ≢ 3 = omega arith in
+    let no_ack : c.args.class ≢ 12 = omega arith in
+    let line : c.args.class < 3 = omega arith in
+    simp (c.in-2.is, ne_eqb _ _ no_gap, ne_eqb _ _ no_ack, lt-ltb _ _ line, c.tells-in-0-to-2.ensures)
 
 pub returns-in_default-class-3 : goal.returns-in_default-class-3
-returns-in_default-class-3 c = simp (c.in-2.is, ne_eqb _ _ c.in_default-1.rest.0.1, ne_eqb _ _ c.in_default-1.rest.1, le-ltb _ _ c.in_default-class-3.false, c.goes-in_default-class-3.ensures)
+returns-in_default-class-3 c =
+    let no_gap : c.args.class ≢ 3 = omega arith in
+    let no_ack : c.args.class ≢ 12 = omega arith in
+    let past : 3 ≤ c.args.class = omega arith in
+    simp (c.in-2.is, ne_eqb _ _ no_gap, ne_eqb _ _ no_ack, le-ltb _ _ past, c.goes-in_default-class-3.ensures)
 
 pub returns-in-1-class : goal.returns-in-1-class
 returns-in-1-class c = simp (c.in-3.is, c.in-1-class.is, c.tells-in-1-class.ensures)
@@ -56,10 +64,16 @@ pub returns-in-3-class-5 : goal.returns-in-3-class-5
 returns-in-3-class-5 c = simp (c.in-5.is, c.in-3-class-5.is, c.goes-in-3-class-5.ensures)
 
 pub returns-in-0-to-2-class : goal.returns-in-0-to-2-class
-returns-in-0-to-2-class c = simp (c.in-5.is, ne_eqb _ _ c.in_default-1.rest.1, lt-ltb _ _ c.in-0-to-2-class.true, c.drops.ensures)
+returns-in-0-to-2-class c =
+    let no_gap : c.args.class ≢ 3 = omega arith in
+    let line : c.args.class < 3 = omega arith in
+    simp (c.in-5.is, ne_eqb _ _ no_gap, lt-ltb _ _ line, c.drops.ensures)
 
 pub returns-in_default-class-6 : goal.returns-in_default-class-6
-returns-in_default-class-6 c = simp (c.in-5.is, ne_eqb _ _ c.in_default-1.rest.1, le-ltb _ _ c.in_default-class-6.false, c.goes-in_default-class-6.ensures)
+returns-in_default-class-6 c =
+    let no_gap : c.args.class ≢ 3 = omega arith in
+    let past : 3 ≤ c.args.class = omega arith in
+    simp (c.in-5.is, ne_eqb _ _ no_gap, le-ltb _ _ past, c.goes-in_default-class-6.ensures)
 
 pub returns-in-5-class : goal.returns-in-5-class
 returns-in-5-class c = simp (c.in-6.is, c.in-5-class.is)
@@ -113,34 +127,54 @@ pub returns-in_default-class-11 : goal.returns-in_default-class-11
 returns-in_default-class-11 c = simp (c.in-10.is, ne_eqb _ _ c.in_default-class-11.in_default-class-11-own.rest.0.0.1, ne_eqb _ _ c.in_default-class-11.in_default-class-11-own.rest.0.1, ne_eqb _ _ c.in_default-class-11.in_default-class-11-own.rest.1, c.drops-in_default-class-11.ensures)
 
 pub returns-in-1-to-2 : goal.returns-in-1-to-2
-returns-in-1-to-2 c = simp (c.in-11.is, le-ltb _ _ c.if-class-lt1.false, lt-ltb _ _ c.in-1-to-2.true, c.tells-in-1-to-2.ensures)
+returns-in-1-to-2 c =
+    let past : 1 ≤ c.args.class = omega arith in
+    let line : c.args.class < 3 = omega arith in
+    simp (c.in-11.is, le-ltb _ _ past, lt-ltb _ _ line, c.tells-in-1-to-2.ensures)
 
 pub returns-in_default-class-12 : goal.returns-in_default-class-12
-returns-in_default-class-12 c = simp (c.in-11.is, c.drops-in_default-class-12.ensures) (⊎_elim (λ w. simp (lt-ltb _ _ w.taken)) (λ w. simp (le-ltb _ _ w.0.left, le-ltb _ _ w.1.left)) c.in_default-class-12.branch)
+returns-in_default-class-12 c =
+    simp (c.in-11.is, c.drops-in_default-class-12.ensures) (elim c.in_default-class-12.branch [ in_default-class-12-via-then-class-lt1 w ↦ let start : c.args.class < 1 = omega arith in simp (lt-ltb _ _ start) | in_default-class-12-via-else-class-lt1+else-class-lt3-3 w ↦ let past : 1 ≤ c.args.class = omega arith in let no_line : 3 ≤ c.args.class = omega arith in simp (le-ltb _ _ past, le-ltb _ _ no_line) ])
 
 pub returns-in-1-to-2-class : goal.returns-in-1-to-2-class
-returns-in-1-to-2-class c = simp (c.in-12.is, le-ltb _ _ c.if-class-lt1-2.false, lt-ltb _ _ c.in-1-to-2-class.true, c.tells-in-1-to-2-class.ensures)
+returns-in-1-to-2-class c =
+    let past : 1 ≤ c.args.class = omega arith in
+    let line : c.args.class < 3 = omega arith in
+    simp (c.in-12.is, le-ltb _ _ past, lt-ltb _ _ line, c.tells-in-1-to-2-class.ensures)
 
 pub returns-in_default-class-13 : goal.returns-in_default-class-13
-returns-in_default-class-13 c = simp (c.in-12.is, c.drops-in_default-class-13.ensures) (⊎_elim (λ w. simp (lt-ltb _ _ w.taken)) (λ w. simp (le-ltb _ _ w.0.left, le-ltb _ _ w.1.left)) c.in_default-class-13.branch)
+returns-in_default-class-13 c =
+    simp (c.in-12.is, c.drops-in_default-class-13.ensures) (elim c.in_default-class-13.branch [ in_default-class-13-via-then-class-lt1-2 w ↦ let start : c.args.class < 1 = omega arith in simp (lt-ltb _ _ start) | in_default-class-13-via-else-class-lt1-2+else-class-lt3-4 w ↦ let past : 1 ≤ c.args.class = omega arith in let no_line : 3 ≤ c.args.class = omega arith in simp (le-ltb _ _ past, le-ltb _ _ no_line) ])
 
 pub returns-in-3-class-9 : goal.returns-in-3-class-9
 returns-in-3-class-9 c = simp (c.in-13.is, c.in-3-class-9.is, c.goes-in-3-class-9.ensures)
 
 pub returns-in-1-to-2-class-2 : goal.returns-in-1-to-2-class-2
-returns-in-1-to-2-class-2 c = simp (c.in-13.is, ne_eqb _ _ c.in_default-1.rest.1, le-ltb _ _ c.if-class-lt1-3.false, lt-ltb _ _ c.in-1-to-2-class-2.true, c.tells-in-1-to-2-class-2.ensures)
+returns-in-1-to-2-class-2 c =
+    let past : 1 ≤ c.args.class = omega arith in
+    let line : c.args.class < 3 = omega arith in
+    let no_gap : c.args.class ≢ 3 = omega arith in
+    simp (c.in-13.is, ne_eqb _ _ no_gap, le-ltb _ _ past, lt-ltb _ _ line, c.tells-in-1-to-2-class-2.ensures)
 
 pub returns-in_default-class-14 : goal.returns-in_default-class-14
-returns-in_default-class-14 c = simp (c.in-13.is, ne_eqb _ _ c.in_default-1.rest.1, c.drops-in_default-class-14.ensures) (⊎_elim (λ w. simp (lt-ltb _ _ w.taken)) (λ w. simp (le-ltb _ _ w.0.left, le-ltb _ _ w.1.left)) c.in_default-class-14.branch)
+returns-in_default-class-14 c =
+    let no_gap : c.args.class ≢ 3 = omega arith in
+    simp (c.in-13.is, ne_eqb _ _ no_gap, c.drops-in_default-class-14.ensures) (elim c.in_default-class-14.branch [ in_default-class-14-via-then-class-lt1-3 w ↦ let start : c.args.class < 1 = omega arith in simp (lt-ltb _ _ start) | in_default-class-14-via-else-class-lt1-3+else-class-lt3-5 w ↦ let past : 1 ≤ c.args.class = omega arith in let no_line : 3 ≤ c.args.class = omega arith in simp (le-ltb _ _ past, le-ltb _ _ no_line) ])
 
 pub returns-in-3-class-10 : goal.returns-in-3-class-10
 returns-in-3-class-10 c = simp (c.in-14.is, c.in-3-class-10.is, c.goes-in-3-class-10.ensures)
 
 pub returns-in-1-to-2-class-3 : goal.returns-in-1-to-2-class-3
-returns-in-1-to-2-class-3 c = simp (c.in-14.is, ne_eqb _ _ c.in_default-1.rest.1, le-ltb _ _ c.if-class-lt1-4.false, lt-ltb _ _ c.in-1-to-2-class-3.true, c.drops-in-1-to-2-class-3.ensures)
+returns-in-1-to-2-class-3 c =
+    let past : 1 ≤ c.args.class = omega arith in
+    let line : c.args.class < 3 = omega arith in
+    let no_gap : c.args.class ≢ 3 = omega arith in
+    simp (c.in-14.is, ne_eqb _ _ no_gap, le-ltb _ _ past, lt-ltb _ _ line, c.drops-in-1-to-2-class-3.ensures)
 
 pub returns-in_default-class-15 : goal.returns-in_default-class-15
-returns-in_default-class-15 c = simp (c.in-14.is, ne_eqb _ _ c.in_default-1.rest.1, c.drops-in_default-class-15.ensures) (⊎_elim (λ w. simp (lt-ltb _ _ w.taken)) (λ w. simp (le-ltb _ _ w.0.left, le-ltb _ _ w.1.left)) c.in_default-class-15.branch)
+returns-in_default-class-15 c =
+    let no_gap : c.args.class ≢ 3 = omega arith in
+    simp (c.in-14.is, ne_eqb _ _ no_gap, c.drops-in_default-class-15.ensures) (elim c.in_default-class-15.branch [ in_default-class-15-via-then-class-lt1-4 w ↦ let start : c.args.class < 1 = omega arith in simp (lt-ltb _ _ start) | in_default-class-15-via-else-class-lt1-4+else-class-lt3-6 w ↦ let past : 1 ≤ c.args.class = omega arith in let no_line : 3 ≤ c.args.class = omega arith in simp (le-ltb _ _ past, le-ltb _ _ no_line) ])
 
 pub returns-in-3-class-11 : goal.returns-in-3-class-11
 returns-in-3-class-11 c = simp (c.in-15.is, c.in-3-class-11.is, c.goes-in-3-class-11.ensures)

@@ -1,5 +1,4 @@
 use borrow.Author.Tests.{eq-eqb, ne_eqb}
-use borrow.Author.Rules.{rules}
 use Rattle.link.proofs.signals.class_of.Goals as goal
 
 pub returns-in-Start : goal.returns-in-Start

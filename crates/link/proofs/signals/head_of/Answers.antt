@@ -1,4 +1,3 @@
-use borrow.Author.Rules.{rules}
 use Rattle.link.proofs.signals.head_of.Goals as goal
 
 pub returns-in-Start : goal.returns-in-Start

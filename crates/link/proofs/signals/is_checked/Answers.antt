@@ -1,4 +1,3 @@
-use borrow.Author.Rules.{rules}
 use Rattle.link.proofs.signals.is_checked.Goals as goal
 
 pub returns : goal.returns
