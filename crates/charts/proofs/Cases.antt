@@ -413,13 +413,15 @@ pub questions_hold : map (λ (x : Asked). route_number x.handed x.question x.dep
 unfolding route_number valid phase_fits cell_fits mode_fits
 questions_hold = refl
 
--- "which bus events could make node 0 miss": E, with its Ack under way. It is lost, or garbled, and node 1's End comes to a node that has heard no good Ack
-abbrev Misses : List Action → Type 0
-Misses l = IsRoute (after (fresh 2) (take 19 (b 0))) (record { word = W.Miss; node = 0 }) 3 l
-
-pub lost_ack : Misses (lose ∷ clock 1 ∷ pass ∷ []) × Misses (change 0 ∷ clock 1 ∷ pass ∷ [])
+-- "which bus events could make node 0 miss": E, with its Ack under way. It is lost, and node 1's End comes to a node that has heard no Ack
+pub lost_ack : IsRoute (after (fresh 2) (take 19 (b 0))) (record { word = W.Miss; node = 0 }) 3 (lose ∷ clock 1 ∷ pass ∷ [])
 unfolding step look play outcome Actions.request Actions.arbitrate Actions.respond Actions.clock Actions.carry Actions.grant Actions.gap Actions.reset Actions.ask Actions.decide output arrives hears clean move_of read valid phase_fits cell_fits mode_fits gives
-lost_ack = (record { within = lit≤ tt; kinds = refl; accepted = refl; reports = refl }, record { within = lit≤ tt; kinds = refl; accepted = refl; reports = refl })
+lost_ack = record { within = lit≤ tt; kinds = refl; accepted = refl; reports = refl }
+
+-- or it is garbled
+pub garbled_ack : IsRoute (after (fresh 2) (take 19 (b 0))) (record { word = W.Miss; node = 0 }) 3 (change 0 ∷ clock 1 ∷ pass ∷ [])
+unfolding step look play outcome Actions.request Actions.arbitrate Actions.respond Actions.clock Actions.carry Actions.grant Actions.gap Actions.reset Actions.ask Actions.decide output arrives hears clean move_of read valid phase_fits cell_fits mode_fits gives
+garbled_ack = record { within = lit≤ tt; kinds = refl; accepted = refl; reports = refl }
 
 -- it is node 0's miss: not node 1's, and no ack of node 0
 pub no_other_lem : map (λ q. gives q (last_report Silent (results (after (fresh 2) (take 19 (b 0))) (lose ∷ clock 1 ∷ pass ∷ [])))) (record { word = W.Miss; node = 1 } ∷ record { word = W.Ack; node = 0 } ∷ []) ≡ false ∷ false ∷ []
@@ -440,7 +442,7 @@ pair l m = record { sooner = l; later = m }
 
 abbrev pub pairs : List Pair
 pairs =
-    pair (lose ∷ clock 1 ∷ pass ∷ []) (change 0 ∷ clock 1 ∷ pass ∷ [])  -- those of `lost_ack`
+    pair (lose ∷ clock 1 ∷ pass ∷ []) (change 0 ∷ clock 1 ∷ pass ∷ [])  -- those of `lost_ack` and `garbled_ack`
     ∷ pair (pass ∷ []) (lose ∷ [])
     ∷ pair (clock 0 ∷ []) (clock 1 ∷ [])
     ∷ pair (clock 1 ∷ []) (pass ∷ [])  -- the kind, then the node

@@ -97,8 +97,19 @@ no_route = refused_by N.accepted
 abbrev pub route : List Action → Answer
 route l = record { number = N.accepted; found = true; count = length l; actions = in_places l }
 
--- what the search answers: "Request 9's search is to give" the first route, and "It says there is none only if no such continuation exists", of all lists of records. It leaves one answer (`one_answer`, routes/proofs/First.antt)
+-- what a search may answer: "Some route is enough", and "It says there is none only if no such continuation exists", of all lists of records
 pub data Answers (s : State) (q : Question) (d : ℕ) : Answer → Type 0 where
   refused : route_number s q d ≢ N.accepted → Answers s q d (refused_by (route_number s q d))
   none : route_number s q d ≡ N.accepted → ((l : List Action) → IsRoute s q d l → ⊥) → Answers s q d no_route
-  found : route_number s q d ≡ N.accepted → {l : List Action} → FirstRoute s q d l → Answers s q d (route l)
+  found : route_number s q d ≡ N.accepted → {l : List Action} → IsRoute s q d l → Answers s q d (route l)
+
+-- "Request 9's search is to give" the first route (request 11): the answer holds it
+pub record HoldsFirst (s : State) (q : Question) (d : ℕ) (x : Answer) : Type 0 where
+  pub list : List Action
+  pub first : FirstRoute s q d list
+  pub holds : x ≡ route list
+
+-- what the search answers: one of these answers, and a route that it holds is the first. It leaves one answer (`one_answer`, routes/proofs/First.antt)
+pub record FirstAnswers (s : State) (q : Question) (d : ℕ) (x : Answer) : Type 0 where
+  pub answers : Answers s q d x
+  pub first : x.found ≡ true → HoldsFirst s q d x

@@ -12,12 +12,12 @@ use Rattle.charts.specs.declared.Question.{Question}
 use Rattle.charts.specs.Numbers as N
 use Rattle.charts.specs.State.{State}
 use Rattle.charts.specs.Valid.{valid}
-use Rattle.charts.specs.Routes.{numbered, gives, route_number, refused_by, no_route, Answers, refused, none, found}
+use Rattle.charts.specs.Routes.{numbered, gives, route_number, refused_by, no_route, route, HoldsFirst, Answers, refused, none, found}
 use Rattle.charts.proofs.Tools.{by_test}
 use Rattle.routes.specs.declared.search.Trail.{Trail}
 use Rattle.routes.specs.Search.{searched, trail_of}
 use Rattle.routes.proofs.Searches.{search_leads}
-use Rattle.routes.proofs.First.{no_route_lem, found_first}
+use Rattle.routes.proofs.First.{found-route, no_route_lem, found_first}
 
 -- no report is not asked for, so that no route is empty
 is_kind_lem : (w : Word) → eqb 0 (numbered w) ≡ false
@@ -58,10 +58,18 @@ module _ (s : State) (q : Question) (d : ℕ) (e : route_number s q d ≡ N.acce
   pub none_next : (k : ℕ) (t : Trail) → NoneTo k → t ≡ trail_of (searched (k + 1) s Silent q) → t.found ≡ false → NoneTo (k + 1)
   none_next k t f p o j h = by_test (eqb j (k + 1)) (λ z. subst (λ j. (searched j s Silent q).found ≡ false) (sym (eqb-true j (k + 1) z)) (sym (ap (λ t. t.found) p) ∙ o)) (λ z. f j (omega (arith, h, eqb-false j (k + 1) z)))
 
+  -- a route found, and the answer that holds it
+  answer_is : (k : ℕ) (t : Trail) → t ≡ trail_of (searched k s Silent q) → (searched k s Silent q).found ≡ true → route (searched k s Silent q).records ≡ record { number = N.accepted; found = true; count = k; actions = t.actions }
+  answer_is k t p f = ap₂ (λ k l. record { number = N.accepted; found = true; count = k; actions = l }) (search_leads k s Silent q f).size (sym (ap (λ t. t.actions) p))
+
   pub answer_none : NoneTo d → Answers s q d no_route
   answer_none f = none e (no_route_lem s q d f)
 
-  pub answer_found : (k : ℕ) → k < d → (t : Trail) → NoneTo k → t ≡ trail_of (searched (k + 1) s Silent q) → t.found ≡ true → Answers s q d (record { number = N.accepted; found = true; count = k + 1; actions = t.actions })
-  answer_found k h t shorter p o =
+  pub answer_found : (k : ℕ) → k ≤ d → (t : Trail) → t ≡ trail_of (searched k s Silent q) → t.found ≡ true → Answers s q d (record { number = N.accepted; found = true; count = k; actions = t.actions })
+  answer_found k h t p o = let f = sym (ap (λ t. t.found) p) ∙ o in subst (Answers s q d) (answer_is k t p f) (found e (found-route s q d k h f))
+
+  -- and with no shorter one it is the first
+  pub holds_first : (k : ℕ) → k < d → (t : Trail) → NoneTo k → t ≡ trail_of (searched (k + 1) s Silent q) → t.found ≡ true → HoldsFirst s q d (record { number = N.accepted; found = true; count = k + 1; actions = t.actions })
+  holds_first k h t shorter p o =
       let f = sym (ap (λ t. t.found) p) ∙ o in
-      subst (Answers s q d) (ap₂ (λ k l. record { number = N.accepted; found = true; count = k; actions = l }) (search_leads (k + 1) s Silent q f).size (sym (ap (λ t. t.actions) p))) (found e (found_first s q d (k + 1) (omega (arith, h)) (λ j l. shorter j (omega (arith, l))) f))
+      record { list = (searched (k + 1) s Silent q).records; first = found_first s q d (k + 1) (omega (arith, h)) (λ j l. shorter j (omega (arith, l))) f; holds = sym (answer_is (k + 1) t p f) }

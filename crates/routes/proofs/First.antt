@@ -15,11 +15,11 @@ use Rattle.charts.specs.declared.Answer.{Answer}
 use Rattle.charts.specs.Numbers as N
 use Rattle.charts.specs.Layout.{records_of}
 use Rattle.charts.specs.State.{State}
-use Rattle.charts.specs.Routes.{IsRoute, precedes, FirstRoute, route_number, route, Answers, refused, none, found}
+use Rattle.charts.specs.Routes.{IsRoute, precedes, FirstRoute, FirstAnswers, HoldsFirst, route_number, route, Answers, refused, none, found}
 use Rattle.charts.proofs.Tools.{never, clash, by_test}
 use Rattle.routes.specs.Search.{Found, searched}
 use Rattle.routes.proofs.Order.{before_one, never_before_itself}
-use Rattle.routes.proofs.Searches.{search_leads, Reaches, leads_found}
+use Rattle.routes.proofs.Searches.{search_leads, Reaches, leads_reached}
 
 module _ (s : State) (q : Question) where
   -- the search for routes of just k records
@@ -27,10 +27,10 @@ module _ (s : State) (q : Question) where
   lasting k = searched k s Silent q
 
   route_reached : (d : ℕ) (l : List Action) → IsRoute s q d l → Reaches (lasting (length l)) l
-  route_reached d l x = leads_found l s Silent q x.kinds x.accepted x.reports
+  route_reached d l x = leads_reached l s Silent q x.kinds x.accepted x.reports
 
   -- found, it is a route; where none of at most d records is found, there is none
-  found-route : (d k : ℕ) → k ≤ d → (lasting k).found ≡ true → IsRoute s q d (lasting k).records
+  pub found-route : (d k : ℕ) → k ≤ d → (lasting k).found ≡ true → IsRoute s q d (lasting k).records
   found-route d k h e = let x = search_leads k s Silent q e in record { within = omega (arith, x.size, h); kinds = x.kinds; accepted = x.accepted; reports = x.reports }
 
   pub no_route_lem : (d : ℕ) → ((k : ℕ) → k ≤ d → (lasting k).found ≡ false) → (l : List Action) → IsRoute s q d l → ⊥
@@ -62,16 +62,22 @@ module _ (s : State) (q : Question) where
       alike = omega (arith, f.none_shorter m g.is_route, g.none_shorter l f.is_route)
 
   -- and the contract of the search leaves one answer
-  pub one_answer : (d : ℕ) {x y : Answer} → Answers s q d x → Answers s q d y → x ≡ y
-  one_answer d (refused a) (refused b) = refl
-  one_answer d (refused a) (none b f) = absurd (a b)
-  one_answer d (refused a) (found b f) = absurd (a b)
-  one_answer d (none a f) (refused b) = absurd (b a)
-  one_answer d (none a f) (none b g) = refl
-  one_answer d (none a f) (found b {l} g) = absurd (f l g.is_route)
-  one_answer d (found a f) (refused b) = absurd (b a)
-  one_answer d (found a {l} f) (none b g) = absurd (g l f.is_route)
-  one_answer d (found a {l} f) (found b {l = m} g) = ap route (one_first d l m f g)
+  pub one_answer : (d : ℕ) {x y : Answer} → FirstAnswers s q d x → FirstAnswers s q d y → x ≡ y
+  one_answer d f g = go f.answers g.answers f.first g.first
+    where
+      same : {x y : Answer} → HoldsFirst s q d x → HoldsFirst s q d y → x ≡ y
+      same u v = u.holds ∙ ap route (one_first d u.list v.list u.first v.first) ∙ sym v.holds
+
+      go : {x y : Answer} → Answers s q d x → Answers s q d y → (x.found ≡ true → HoldsFirst s q d x) → (y.found ≡ true → HoldsFirst s q d y) → x ≡ y
+      go (refused a) (refused b) u v = refl
+      go (refused a) (none b f) u v = absurd (a b)
+      go (refused a) (found b f) u v = absurd (a b)
+      go (none a f) (refused b) u v = absurd (b a)
+      go (none a f) (none b g) u v = refl
+      go (none a f) (found b {l} g) u v = absurd (f l g)
+      go (found a f) (refused b) u v = absurd (b a)
+      go (found a {l} f) (none b g) u v = absurd (g l f)
+      go (found a f) (found b g) u v = same (u refl) (v refl)
 
   -- a depth that is not less than a route's length has it too
   deep_enough : (d e : ℕ) (l : List Action) → IsRoute s q d l → length l ≤ e → IsRoute s q e l
@@ -85,7 +91,9 @@ module _ (s : State) (q : Question) where
   }
 
   -- the same question has the same route at every depth that is taken and deep enough
-  pub same_at_any_depth : (d e : ℕ) {x y : Answer} → Answers s q d x → x.found ≡ true → x.count ≤ e → route_number s q e ≡ N.accepted → Answers s q e y → y ≡ x
-  same_at_any_depth d e (refused a) o h t y = never o
-  same_at_any_depth d e (none a f) o h t y = never o
-  same_at_any_depth d e (found a {l} f) o h t y = one_answer e y (found t (first_at_any_depth d e l f h))
+  pub same_at_any_depth : (d e : ℕ) {x y : Answer} → FirstAnswers s q d x → x.found ≡ true → x.count ≤ e → route_number s q e ≡ N.accepted → FirstAnswers s q e y → y ≡ x
+  same_at_any_depth d e {x} f o h t y =
+      let u = f.first o in
+      let k : length u.list ≤ e = subst (λ x. x.count ≤ e) u.holds h in
+      let r = first_at_any_depth d e u.list u.first k in
+      one_answer e y (record { answers = subst (Answers s q e) (sym u.holds) (found t r.is_route); first = λ o. record { list = u.list; first = r; holds = u.holds } })

@@ -153,10 +153,14 @@ module _ (s : State) (q : Question) (a : Action) (l : List Action) (o : is_accep
       }
 
 -- and what leads there is found, if nothing before it is
-pub leads_found : (l : List Action) (s : State) (r : Report) (q : Question) → all_bus_events l ≡ true → all_accepted (results s l) ≡ true → gives q (last_report r (results s l)) ≡ true → Reaches (searched (length l) s r q) l
+pub leads_reached : (l : List Action) (s : State) (r : Report) (q : Question) → all_bus_events l ≡ true → all_accepted (results s l) ≡ true → gives q (last_report r (results s l)) ≡ true → Reaches (searched (length l) s r q) l
 unfolding searched
-leads_found [] s r q k o e = record { found = e; not_after = inl refl }
-leads_found (a ∷ l) s r q k o e =
+leads_reached [] s r q k o e = record { found = e; not_after = inl refl }
+leads_reached (a ∷ l) s r q k o e =
     let accepted = and-true (is_accepted (step s a)) _ o in
     let event = and-true (is_bus_event a) _ k in
-    reached s q a l accepted.0 (covers s a accepted.0 event.0) (leads_found l (step s a).state (step s a).report q event.1 accepted.1 e)
+    reached s q a l accepted.0 (covers s a accepted.0 event.0) (leads_reached l (step s a).state (step s a).report q event.1 accepted.1 e)
+
+-- it is found
+pub leads_found : (l : List Action) (s : State) (r : Report) (q : Question) → all_bus_events l ≡ true → all_accepted (results s l) ≡ true → gives q (last_report r (results s l)) ≡ true → (searched (length l) s r q).found ≡ true
+leads_found l s r q k o e = (leads_reached l s r q k o e).found

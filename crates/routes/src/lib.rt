@@ -4,8 +4,8 @@
 mod choices;
 mod search;
 
-ghost use Rattle.std.specs.Prelude.{◌≡◌};
-ghost use Rattle.charts.specs.Routes.{too_deep, route_number, refused_by, Answers};
+ghost use Rattle.std.specs.Prelude.{◌≡◌, true};
+ghost use Rattle.charts.specs.Routes.{too_deep, route_number, refused_by, Answers, HoldsFirst};
 ghost use Rattle.charts.specs.View.{view};
 
 use charts::{Answer, Bus, Question, Report};
@@ -57,7 +57,8 @@ fn without_route(number: u8) -> Answer
 
 // The first route of at most `depth` bus events from a state to a report: the lengths from 1 on, and of each length the records in the order of their bytes.
 pub fn find(b: Bus, q: Question, depth: u8) -> Answer
-    ensures { Answers (view b) q depth result }
+    ensures answers { Answers (view b) q depth result }
+    ensures first { result.found ≡ true → HoldsFirst (view b) q depth result }
 {
     let number = number(b, q, depth);
     if number != 0 {
