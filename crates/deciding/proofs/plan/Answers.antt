@@ -1,0 +1,4 @@
+use Rattle.deciding.proofs.plan.Goals as goal
+
+pub returns : goal.returns
+returns c = c.decide.ensures
