@@ -72,7 +72,7 @@ def respell(text, to):
 
 
 def md(text, to, pages):
-    return re.sub(r"`[^`\n]*`", lambda m: TOKEN.sub(lambda t: to.get(t[0]) or pages.get(snake(t[0]), t[0]), m[0]), text)
+    return re.sub(r"`[^`\n]*`", lambda m: TOKEN.sub(lambda t: to.get(t[0]) or (pages.get(snake(t[0]), t[0]) if t[0][0].islower() else t[0]), m[0]), text)
 
 
 def in_backquotes(text, to):
