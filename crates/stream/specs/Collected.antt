@@ -1,7 +1,11 @@
 -- A buffer of collected text: how many bytes it holds, and which.
-use Rattle.std.specs.Prelude.{Bool, cond, ◌&&◌, ◌||◌, List, ℕ, ◌+◌, ◌-◌, leb, ltb, length, take}
+use Rattle.std.specs.Prelude.{Bool, cond, ◌&&◌, ◌||◌, List, ℕ, ◌+◌, ◌-◌, ◌≡◌, ◌≤◌, leb, ltb, length, take}
 use Rattle.std.proofs.lemmas.List.Edits.{sets}
 use Rattle.stream.specs.declared.Held.{Held}
+
+-- so many bytes are there, and they are the first ones
+abbrev pub IsPrefixLen : ℕ → List ℕ → Type 0
+IsPrefixLen n xs = (n ≤ length xs) × (n ≡ length (take n xs))
 
 -- of so many bytes no more than there are
 abbrev pub held_of : ℕ → ℕ → ℕ

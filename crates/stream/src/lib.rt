@@ -1,16 +1,30 @@
-// Standard output and input in large parts, by way of buffers that the caller lends, and lines in such a buffer.
+// Output and input in large parts, by way of buffers that the caller lends, and lines in such a buffer.
 // A failed write or read is told, never passed over. Whether one fails is the operating system's answer, which no contract can say: `whole` holds it.
 #![tactic(auto)]
 
-ghost use Rattle.std.specs.Prelude.{◌≡◌, true, cond, ◌&&◌, ◌+◌, ◌-◌, ◌≤◌, ◌<◌, length};
+ghost use Rattle.std.specs.Prelude.{◌≡◌, true, false, cond, ◌&&◌, ◌+◌, ◌-◌, ◌≤◌, ◌<◌, length, IsSome};
 ghost use Rattle.std.proofs.lemmas.List.Edits.{sets};
-ghost use Rattle.io.specs.Counts.{IsPrefixLen};
-ghost use Rattle.stream.specs.Collected.{held_of, held_in, first_of, held_after, collected, whole_after};
-ghost use Rattle.stream.specs.Lines.{added, taken_of};
+ghost use Rattle.stream.specs.Collected.{IsPrefixLen, held_of, held_in, first_of, held_after, collected, whole_after};
+ghost use Rattle.stream.specs.Lines.{added, taken_of, index_of};
 
-use libc::{STDIN_FILENO, STDOUT_FILENO};
+use std::io;
+use std::io::{Eprint, Read, Write};
 
 const NEWLINE: u8 = 10;
+
+// What is written to, and why a write failed.
+#[derive(Drop)]
+pub struct Output<W> {
+    pub writer: W,
+    pub failure: Option<io::Error>,
+}
+
+// What is read from, and why a read failed.
+#[derive(Drop)]
+pub struct Input<R> {
+    pub reader: R,
+    pub failure: Option<io::Error>,
+}
 
 // How many bytes of text a buffer holds, and whether every write so far was taken. Once one was not, nothing more is held or written.
 #[derive(Clone, Copy)]
@@ -41,6 +55,41 @@ pub struct Taken {
     pub ended: bool,
 }
 
+impl<W> Output<W> {
+    pub fn new(writer: W) -> Output<W>
+        ensures { result.writer ≡ writer }
+    {
+        Output {
+            writer: writer,
+            failure: None,
+        }
+    }
+}
+
+impl<R> Input<R> {
+    pub fn new(reader: R) -> Input<R>
+        ensures { result.reader ≡ reader }
+    {
+        Input {
+            reader: reader,
+            failure: None,
+        }
+    }
+}
+
+// Writes a text, and answers whether all of it was taken.
+fn write<W: Write>(to: &mut Output<W>, text: &[u8]) -> bool
+    ensures { result ≡ false → IsSome to.new.failure }
+{
+    match to.writer.write_all(text) {
+        Ok(()) => true,
+        Err(e) => {
+            to.failure = Some(e);
+            false
+        }
+    }
+}
+
 // The smaller of two sizes.
 fn at_most(used: usize, size: usize) -> usize
     ensures upper_bound { (result ≤ size) × (result ≤ used) }
@@ -57,16 +106,18 @@ fn copy_at(out: &mut [u8], at: usize, text: &[u8])
     requires { at + length text.now ≤ length out.old }
     ensures { out.new ≡ sets out.old at text.now }
 {
-    bytes::copy(text, &mut out[at..]);
+    out[at..at + text.len()].copy_from_slice(text);
 }
 
 // Adds a text after the bytes held, or writes these first where it has no room.
-fn add(out: &mut [u8], at: usize, text: &[u8]) -> Held
+#[tactic(auto, unfolding(crate::specs::Collected::held_after, crate::specs::Collected::collected))]
+fn add<W: Write>(to: &mut Output<W>, out: &mut [u8], at: usize, text: &[u8]) -> Held
     requires { at ≤ length out.old }
     ensures used_in_bounds { result.used ≤ length out.new }
     ensures whole_value { result.whole ≡ whole_after true out.old at text.now result.whole }
     ensures used_value { result.used ≡ cond result.whole (held_after out.old at text.now) 0 }
     ensures out_after { out.new ≡ cond result.whole (collected out.old at text.now) out.old }
+    ensures failure { result.whole ≡ false → IsSome to.new.failure }
 {
     if text.len() <= out.len() - at {
         copy_at(out, at, text);
@@ -75,7 +126,7 @@ fn add(out: &mut [u8], at: usize, text: &[u8]) -> Held
             whole: true,
         };
     }
-    if !io::write_all(STDOUT_FILENO, &out[..at]) {
+    if !write(to, &out[..at]) {
         return Held {
             used: 0,
             whole: false,
@@ -90,21 +141,28 @@ fn add(out: &mut [u8], at: usize, text: &[u8]) -> Held
     }
     Held {
         used: 0,
-        whole: io::write_all(STDOUT_FILENO, text),
+        whole: write(to, text),
     }
 }
 
 // Adds the first bytes of a text to the bytes that the buffer holds; without room for them these are written out first, and what is longer than the
 // buffer is written out too. After a failed write the buffer is as it was, and nothing is held.
-pub fn collect(out: &mut [u8], held: Held, text: &[u8], size: usize) -> Held
+pub fn collect<W: Write>(
+    to: &mut Output<W>,
+    out: &mut [u8],
+    held: Held,
+    text: &[u8],
+    size: usize,
+) -> Held
     ensures prefix_len { IsPrefixLen result.used out.new }
     ensures whole_value { result.whole ≡ whole_after held.whole out.old (held_in out.old held) (first_of size text.now) result.whole }
     ensures used_value { result.used ≡ cond result.whole (held_after out.old (held_in out.old held) (first_of size text.now)) 0 }
     ensures out_after { out.new ≡ cond result.whole (collected out.old (held_in out.old held) (first_of size text.now)) out.old }
+    ensures failure { held.whole ≡ true → result.whole ≡ false → IsSome to.new.failure }
 {
     if held.whole {
         let more = at_most(size, text.len());
-        return add(out, at_most(held.used, out.len()), &text[..more]);
+        return add(to, out, at_most(held.used, out.len()), &text[..more]);
     }
     Held {
         used: 0,
@@ -113,31 +171,40 @@ pub fn collect(out: &mut [u8], held: Held, text: &[u8], size: usize) -> Held
 }
 
 // Writes what is held at the end, and answers whether every write was taken.
-pub fn flush(out: &[u8], held: Held) -> bool
-    ensures { result ≡ (held.whole && result) }
+pub fn flush<W: Write>(to: &mut Output<W>, out: &[u8], held: Held) -> bool
+    ensures value { result ≡ (held.whole && result) }
+    ensures failure { held.whole ≡ true → result ≡ false → IsSome to.new.failure }
 {
     if !held.whole {
         return false;
     }
     let used = at_most(held.used, out.len());
-    io::write_all(STDOUT_FILENO, &out[..used])
+    write(to, &out[..used])
 }
 
-// Reads standard input until the buffer is full, the input ends or a read fails.
-pub fn fill(buf: &mut [u8]) -> Filled
-    ensures { IsPrefixLen result.count buf.new }
+// Reads until the buffer is full, the input ends or a read fails.
+pub fn fill<R: Read>(from: &mut Input<R>, buf: &mut [u8]) -> Filled
+    ensures prefix_len { IsPrefixLen result.count buf.new }
+    ensures failure { result.whole ≡ false → IsSome from.new.failure }
 {
     let mut done: usize = 0;
     while done < buf.len() {
-        let got = libc::read(STDIN_FILENO, &mut buf[done..]);
-        let more = io::count(got, &buf[done..]);
-        if more == 0 {
-            return Filled {
-                count: done,
-                whole: 0 <= got,
-            };
+        match from.reader.read(&mut buf[done..]) {
+            Ok(0) => {
+                return Filled {
+                    count: done,
+                    whole: true,
+                };
+            }
+            Ok(more) => done += more,
+            Err(e) => {
+                from.failure = Some(e);
+                return Filled {
+                    count: done,
+                    whole: false,
+                };
+            }
         }
-        done += more;
     }
     Filled {
         count: done,
@@ -157,6 +224,19 @@ fn append(line: &mut [u8], len: usize, more: &[u8]) -> usize
     len + size
 }
 
+// How many bytes stand before the first newline, or how many there are where there is none.
+fn line_size(bytes: &[u8]) -> usize
+    ensures upper_bound { result ≤ length bytes.now }
+    ensures value { result ≡ index_of 10 bytes.now }
+{
+    for (i, byte) in bytes.iter().enumerate() {
+        if *byte == NEWLINE {
+            return i;
+        }
+    }
+    bytes.len()
+}
+
 // Takes the bytes of a place up to the next newline, and adds them to the first `len` bytes of a line; what does not fit into it is dropped.
 pub fn take_line(buf: &[u8], place: Place, line: &mut [u8], len: usize) -> Taken
     ensures prefix_len { IsPrefixLen result.len line.new }
@@ -166,7 +246,7 @@ pub fn take_line(buf: &[u8], place: Place, line: &mut [u8], len: usize) -> Taken
 {
     let end = at_most(place.end, buf.len());
     let at = at_most(place.at, end);
-    let stop = bytes::scan::find(buf, at, end, NEWLINE);
+    let stop = at + line_size(&buf[at..end]);
     let size = append(line, at_most(len, line.len()), &buf[at..stop]);
     if stop < end {
         return Taken {
@@ -183,4 +263,37 @@ pub fn take_line(buf: &[u8], place: Place, line: &mut [u8], len: usize) -> Taken
         len: size,
         ended: false,
     }
+}
+
+// The longest text of an error that is told.
+const REASON: usize = 320;
+
+// The text of an error without its number, which ends it as ` (os error 28)`.
+fn reason_of(text: &[u8]) -> &str {
+    match str::from_utf8(text) {
+        Ok(text) => match text.split_once(" (os error ") {
+            Some((reason, _)) => reason,
+            None => text,
+        },
+        Err(_) => "",
+    }
+}
+
+// Puts the text of an error into a buffer, and answers how much of it is used.
+fn put_error(text: &mut [u8], error: io::Error) -> usize
+    ensures { IsPrefixLen result text.new }
+{
+    let size = text.len();
+    let mut rest = &mut text[..];
+    let _ = write!(rest, "{error}");
+    let left = rest.len();
+    size - at_most(left, size)
+}
+
+// Says on standard error what failed, and why: a line as `play: standard output: No space left on device`.
+pub fn tell(rt: &impl Eprint, what: &str, error: io::Error) {
+    let mut text = [0u8; REASON];
+    let size = put_error(&mut text, error);
+    let reason = reason_of(&text[..size]);
+    let _ = eprintln!(rt; "{what}: {reason}");
 }
