@@ -1,6 +1,5 @@
 -- Of a trial's bus the rules over arrays and over one node's values are the charts' rules. Assumes nothing.
 use mathlib.Core.Path.{◌≡◌, refl, sym, ap, ap₂, subst, ◌∙◌}
-use mathlib.Core.Logic.{◌≢◌}
 use mathlib.Core.Bool.{Bool, true, false, cond, ◌&&◌, ◌||◌, not, true≢false}
 use Prim.Native.Nat.{ℕ, zero, suc, ◌+◌, ◌<◌, ◌≤◌}
 use native.Mathlib.Omega.{arith}
@@ -186,23 +185,23 @@ module _ (l : Load) where
           go true e = subst (λ i. P i true) (sym (eqb-true k actor e)) t
           go false e = f
 
-      pub heard_after_lem : heard_after (came k l.state a) (us k).period (l.kept k).heard
+      pub heard_then : heard_after (came k l.state a) (us k).period (l.kept k).heard
           ≡ upd (λ i. (l.kept i).heard) actor (heard_after (is_carried a && checked_in l.state.phase) (us actor).period (l.kept actor).heard) k
-      heard_after_lem = ap (λ b. heard_after (is_carried a && b) (us k).period (l.kept k).heard) came_at
+      heard_then = ap (λ b. heard_after (is_carried a && b) (us k).period (l.kept k).heard) came_at
           ∙ at_actor (λ i b. heard_after (is_carried a && (checked_in l.state.phase && b)) (us i).period (l.kept i).heard
           ≡ cond b (heard_after (is_carried a && checked_in l.state.phase) (us actor).period (l.kept actor).heard) (l.kept i).heard)
           (ap (λ b. heard_after (is_carried a && b) (us actor).period (l.kept actor).heard) (and_yes (checked_in l.state.phase)))
           (ap (λ b. heard_after (is_carried a && b) (us k).period (l.kept k).heard) (and_no (checked_in l.state.phase)) ∙ ap (λ b. heard_after b (us k).period (l.kept k).heard) (and_no (is_carried a)))
 
-      pub made_after : (l.kept actor).made < 65535 → made_after (is_of 1 k a) (l.kept k).made ≡ upd (λ i. (l.kept i).made) actor (made_by a.kind (l.kept actor).made) k
-      made_after few = ap (λ b. made_after b (l.kept k).made) (of_actor 1 refl)
+      pub made_then : (l.kept actor).made < 65535 → made_after (is_of 1 k a) (l.kept k).made ≡ upd (λ i. (l.kept i).made) actor (made_by a.kind (l.kept actor).made) k
+      made_then few = ap (λ b. made_after b (l.kept k).made) (of_actor 1 refl)
           ∙ at_actor (λ i b. made_after (eqb a.kind 1 && b) (l.kept i).made ≡ cond b (made_by a.kind (l.kept actor).made) (l.kept i).made)
           (ap₂ (λ b x. cond b x (l.kept actor).made) (and_yes (eqb a.kind 1)) (sym (ap (λ b. cond b (suc (l.kept actor).made) (l.kept actor).made) (lt-ltb (l.kept actor).made 65535 few))))
           (ap (λ b. made_after b (l.kept k).made) (and_no (eqb a.kind 1)))
 
-      pub filled_after_lem : (eqb a.kind 4 && is_answering (l.state.cell actor).mode ≡ true → (l.kept actor).filled < 255) →
+      pub filled_then : (eqb a.kind 4 && is_answering (l.state.cell actor).mode ≡ true → (l.kept actor).filled < 255) →
           filled_after (is_of 3 k a) (fills k l.state a) (l.kept k).filled ≡ upd (λ i. (l.kept i).filled) actor (filled_by a.kind (is_answering (l.state.cell actor).mode) (l.kept actor).filled) k
-      filled_after_lem few = ap₂ (λ x y. filled_after x (y && is_answering (l.state.cell k).mode) (l.kept k).filled) (of_actor 3 refl) (of_actor 4 refl)
+      filled_then few = ap₂ (λ x y. filled_after x (y && is_answering (l.state.cell k).mode) (l.kept k).filled) (of_actor 3 refl) (of_actor 4 refl)
           ∙ at_actor (λ i b. filled_after (eqb a.kind 3 && b) ((eqb a.kind 4 && b) && is_answering (l.state.cell i).mode) (l.kept i).filled
           ≡ cond b (filled_by a.kind (is_answering (l.state.cell actor).mode) (l.kept actor).filled) (l.kept i).filled)
           (ap₂ (λ x y. filled_after x (y && ans) f) (and_yes (eqb a.kind 3)) (and_yes (eqb a.kind 4))

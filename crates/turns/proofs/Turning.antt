@@ -37,7 +37,7 @@ use Rattle.bus.specs.Asking.{places}
 use Rattle.bus.proofs.Advances.{advance_is_step}
 use Rattle.deciding.proofs.MarkLaws.{mark_set}
 use Rattle.turns.specs.Turns.{at, kept_of, full_in, stray_in, is_full, is_stray, waits_by, actor_by, chooses_at, checked_in, filled_by, made_by, kept_after, lowered_by, spelled, request_counted, report_counted, load_in, tally_after, Allowed, Stands, Marked}
-use Rattle.turns.proofs.Rules.{fulls, waits_is, actor, choice_is, named, names_now, heard_after_lem, made_after, filled_after_lem, Short, counted_is}
+use Rattle.turns.proofs.Rules.{waits_is, actor, choice_is, named, names_now, heard_then, made_then, filled_then, Short, counted_is}
 
 -- numbers stored in an array
 pub at_set : (l : List ℕ) (i x : ℕ) → i < length l → at (set l i x) ≡ upd (at l) i x
@@ -186,9 +186,9 @@ module _ (us : ℕ → User) (k : ℕ) (b : Bus) (left heard filled made : List 
               at_node : (i : ℕ) → kept_of left3 (set heard who y.heard) (set filled who y.filled) (set made who y.made) i ≡ keeps i (us i) (view b) a (step (view b) a).report (now.kept i)
               at_node i = kept_eq
                   ((λ p. left3-is p i) ∙ ap₂ (λ r x. cond (won_by i r) (us i).spell x) (ap (λ q. q.report) stepped) (λ p. left2-is p i))
-                  (ap (λ f. f i) (at_set heard who y.heard hs) ∙ ap₂ (λ j z. upd (at heard) j z i) actor_is (ap (λ z. z.heard) y_at ∙ ap (λ j. heard_after (is_carried a && checked_in b.phase) (us j).period (at heard j)) actor_is) ∙ sym (heard_after_lem now us ok.small some_node next_place a chose i))
-                  (ap (λ f. f i) (at_set filled who y.filled fs) ∙ ap₂ (λ j z. upd (at filled) j z i) actor_is (ap (λ z. z.filled) y_at ∙ ap (λ j. filled_by a.kind (is_answering ((view b).cell j).mode) (at filled j)) actor_is) ∙ sym (filled_after_lem now us ok.small some_node next_place a chose i filled_few))
-                  (ap (λ f. f i) (at_set made who y.made ms) ∙ ap₂ (λ j z. upd (at made) j z i) actor_is (ap (λ z. z.made) y_at ∙ ap (λ j. made_by a.kind (at made j)) actor_is) ∙ sym (made_after now us ok.small some_node next_place a chose i (made_few few)))
+                  (ap (λ f. f i) (at_set heard who y.heard hs) ∙ ap₂ (λ j z. upd (at heard) j z i) actor_is (ap (λ z. z.heard) y_at ∙ ap (λ j. heard_after (is_carried a && checked_in b.phase) (us j).period (at heard j)) actor_is) ∙ sym (heard_then now us ok.small some_node next_place a chose i))
+                  (ap (λ f. f i) (at_set filled who y.filled fs) ∙ ap₂ (λ j z. upd (at filled) j z i) actor_is (ap (λ z. z.filled) y_at ∙ ap (λ j. filled_by a.kind (is_answering ((view b).cell j).mode) (at filled j)) actor_is) ∙ sym (filled_then now us ok.small some_node next_place a chose i filled_few))
+                  (ap (λ f. f i) (at_set made who y.made ms) ∙ ap₂ (λ j z. upd (at made) j z i) actor_is (ap (λ z. z.made) y_at ∙ ap (λ j. made_by a.kind (at made j)) actor_is) ∙ sym (made_then now us ok.small some_node next_place a chose i (made_few few)))
 
           -- the tally of one event more
           state_is : view b ≡ final b.n (trial us b.n k)
