@@ -1,11 +1,8 @@
 -- A buffer of collected text: how many bytes it holds, and which.
-use Rattle.std.specs.Prelude.{Bool, cond, ◌&&◌, ◌||◌, List, ℕ, ◌+◌, ◌-◌, ◌≡◌, ◌≤◌, leb, ltb, length, take}
+use Rattle.std.specs.Prelude.{Option, Bool, cond, ◌&&◌, ◌||◌, List, ℕ, ◌+◌, ◌-◌, leb, ltb, length, take}
 use Rattle.std.proofs.lemmas.List.Edits.{sets}
+use Rattle.std.specs.Io.KnownBytes.{append_known}
 use Rattle.stream.specs.declared.Held.{Held}
-
--- so many bytes are there, and they are the first ones
-abbrev pub IsPrefixLen : ℕ → List ℕ → Type 0
-IsPrefixLen n xs = (n ≤ length xs) × (n ≡ length (take n xs))
 
 -- of so many bytes no more than there are
 abbrev pub held_of : ℕ → ℕ → ℕ
@@ -33,3 +30,7 @@ collected out held text =
 -- whether all is whole then: a failed write stays, a text that has room is not written, and for any other it is the operating system's answer
 abbrev pub whole_after : Bool → List ℕ → ℕ → List ℕ → Bool → Bool
 whole_after whole out held text answer = whole && (has_room out held text || answer)
+
+-- what a writer has, where that is known, and after it the bytes that the buffer holds
+abbrev pub sent : Option (List ℕ) → List ℕ → ℕ → Option (List ℕ)
+sent contents out held = append_known contents (take held out)

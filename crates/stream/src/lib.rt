@@ -1,10 +1,12 @@
 // Output and input in large parts, by way of buffers that the caller lends, and lines in such a buffer.
-// A failed write or read is told, never passed over. Whether one fails is the operating system's answer, which no contract can say: `whole` holds it.
+// A failed write or read is told, never passed over, and why it failed is kept. Whether one fails is the operating system's answer, which no contract can say: `whole` holds it.
 #![tactic(auto)]
 
-ghost use Rattle.std.specs.Prelude.{◌≡◌, true, false, cond, ◌&&◌, ◌+◌, ◌-◌, ◌≤◌, ◌<◌, length, IsSome};
+ghost use Rattle.std.specs.Prelude.{◌≡◌, true, false, cond, ◌&&◌, ◌+◌, ◌-◌, ◌≤◌, ◌<◌, length, take, IsSome};
 ghost use Rattle.std.proofs.lemmas.List.Edits.{sets};
-ghost use Rattle.stream.specs.Collected.{IsPrefixLen, held_of, held_in, first_of, held_after, collected, whole_after};
+ghost use Rattle.std.specs.Counts.{IsPrefixLen};
+ghost use Rattle.std.specs.Io.KnownBytes.{Appends, Consumes, IsAtEnd};
+ghost use Rattle.stream.specs.Collected.{sent, held_of, held_in, first_of, held_after, collected, whole_after};
 ghost use Rattle.stream.specs.Lines.{added, taken_of, index_of};
 
 use std::io;
@@ -79,7 +81,8 @@ impl<R> Input<R> {
 
 // Writes a text, and answers whether all of it was taken.
 fn write<W: Write>(to: &mut Output<W>, text: &[u8]) -> bool
-    ensures { result ≡ false → IsSome to.new.failure }
+    ensures failure { result ≡ false → IsSome to.new.failure }
+    ensures written { result ≡ true → Appends (W.contents to.old.writer) (W.contents to.new.writer) text.now }
 {
     match to.writer.write_all(text) {
         Ok(()) => true,
@@ -118,6 +121,8 @@ fn add<W: Write>(to: &mut Output<W>, out: &mut [u8], at: usize, text: &[u8]) -> 
     ensures used_value { result.used ≡ cond result.whole (held_after out.old at text.now) 0 }
     ensures out_after { out.new ≡ cond result.whole (collected out.old at text.now) out.old }
     ensures failure { result.whole ≡ false → IsSome to.new.failure }
+    ensures none_lost { result.whole ≡ true
+        → Appends (sent (W.contents to.old.writer) out.old at) (sent (W.contents to.new.writer) out.new result.used) text.now }
 {
     if text.len() <= out.len() - at {
         copy_at(out, at, text);
@@ -146,7 +151,8 @@ fn add<W: Write>(to: &mut Output<W>, out: &mut [u8], at: usize, text: &[u8]) -> 
 }
 
 // Adds the first bytes of a text to the bytes that the buffer holds; without room for them these are written out first, and what is longer than the
-// buffer is written out too. After a failed write the buffer is as it was, and nothing is held.
+// buffer is written out too. While every write is taken, what is written and then held grows by these bytes alone. After a failed write the buffer is as
+// it was, and nothing is held.
 pub fn collect<W: Write>(
     to: &mut Output<W>,
     out: &mut [u8],
@@ -159,6 +165,8 @@ pub fn collect<W: Write>(
     ensures used_value { result.used ≡ cond result.whole (held_after out.old (held_in out.old held) (first_of size text.now)) 0 }
     ensures out_after { out.new ≡ cond result.whole (collected out.old (held_in out.old held) (first_of size text.now)) out.old }
     ensures failure { held.whole ≡ true → result.whole ≡ false → IsSome to.new.failure }
+    ensures none_lost { result.whole ≡ true
+        → Appends (sent (W.contents to.old.writer) out.old (held_in out.old held)) (sent (W.contents to.new.writer) out.new result.used) (first_of size text.now) }
 {
     if held.whole {
         let more = at_most(size, text.len());
@@ -174,6 +182,7 @@ pub fn collect<W: Write>(
 pub fn flush<W: Write>(to: &mut Output<W>, out: &[u8], held: Held) -> bool
     ensures value { result ≡ (held.whole && result) }
     ensures failure { held.whole ≡ true → result ≡ false → IsSome to.new.failure }
+    ensures written { result ≡ true → Appends (W.contents to.old.writer) (W.contents to.new.writer) (take (held_in out.now held) out.now) }
 {
     if !held.whole {
         return false;
@@ -186,6 +195,8 @@ pub fn flush<W: Write>(to: &mut Output<W>, out: &[u8], held: Held) -> bool
 pub fn fill<R: Read>(from: &mut Input<R>, buf: &mut [u8]) -> Filled
     ensures prefix_len { IsPrefixLen result.count buf.new }
     ensures failure { result.whole ≡ false → IsSome from.new.failure }
+    ensures none_lost { Consumes (R.remaining from.old.reader) (R.remaining from.new.reader) (take result.count buf.new) }
+    ensures at_end { result.whole ≡ true → result.count < length buf.new → IsAtEnd (R.remaining from.new.reader) }
 {
     let mut done: usize = 0;
     while done < buf.len() {
