@@ -5,7 +5,7 @@ use Prim.Native.Nat.{ℕ, ◌≤◌}
 use native.Mathlib.Omega.{arith}
 use borrow.Author.Tests.{le-ltb}
 use lib.ListN.{length}
-use Rattle.words.specs.Words.{tokens_of_words, tokens_of}
+use Rattle.words.specs.Words.{tokens_of_words}
 use Rattle.words.specs.Lines.{spaced}
 use Rattle.words.proofs.Spaced.{AllGood, total, spaced_short, tokens_back}
 use Rattle.notation.specs.declared.Text.{Text}
