@@ -11,7 +11,7 @@ use Rattle.charts.specs.declared.Seen.TheVariants as Sn
 use Rattle.charts.specs.declared.Mode.{Mode}
 use Rattle.charts.specs.declared.Mode.TheVariants.{Rest, AckBody, AckEnd, Sending, Answering, Acking, Spurious, Asked}
 use Rattle.charts.specs.declared.Signal.{Signal}
-use Rattle.charts.specs.declared.Signal.TheVariants.{Start, End, Prefix, Gap, Ack}
+use Rattle.charts.specs.declared.Signal.TheVariants.{Start, End, Prefix, Gap}
 use Rattle.charts.specs.declared.Report.{Report}
 use Rattle.charts.specs.declared.Report.TheVariants.{Silent, Won, Sent, Acked, Miss, Good, Dcrc, Broad}
 use Rattle.charts.specs.declared.Packet.{Packet}

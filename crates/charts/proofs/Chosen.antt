@@ -23,7 +23,6 @@ use Rattle.charts.specs.declared.Action.{Action}
 use Rattle.charts.specs.declared.Decoded.TheVariants.{Accepted}
 use Rattle.charts.specs.declared.User.{User}
 use Rattle.charts.specs.declared.Kept.{Kept}
-use Rattle.charts.specs.Numbers as N
 use Rattle.charts.specs.Modes as P
 use Rattle.charts.specs.Modes.{place_of, is_rest, is_answering, is_holding, is_spurious}
 use Rattle.charts.specs.Signals.{is_checked}
