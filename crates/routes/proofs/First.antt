@@ -16,7 +16,7 @@ use Rattle.charts.specs.Numbers as N
 use Rattle.charts.specs.Layout.{records_of}
 use Rattle.charts.specs.State.{State}
 use Rattle.charts.specs.Routes.{IsRoute, precedes, FirstRoute, FirstAnswers, HoldsFirst, route_number, route, Answers, refused, none, found}
-use Rattle.charts.proofs.Tools.{never, clash, by_test}
+use Rattle.charts.proofs.Tools.{clash, by_test}
 use Rattle.routes.specs.Search.{Found, searched}
 use Rattle.routes.proofs.Order.{before_one, never_before_itself}
 use Rattle.routes.proofs.Searches.{search_leads, Reaches, leads_reached}

@@ -99,7 +99,7 @@ pub search_leads : (d : ℕ) (s : State) (r : Report) (q : Question) → (search
 unfolding searched
 search_leads zero s r q e = record { size = refl; kinds = refl; accepted = refl; reports = e }
 search_leads (suc d) s r q e =
-    let x = first_leads _ (choices s.n s.phase) 0 e in
+    let x = first_leads (following d s q) (choices s.n s.phase) 0 e in
     let a = choice s.n s.phase x.place in
     subst (λ y. Leading s r q (suc d) y.records) (sym x.is)
     (begun_leads s r q d a (choice_event s.n s.phase x.place) (searched d (step s a).state (step s a).report q) (search_leads d (step s a).state (step s a).report q) x.leads)
