@@ -186,8 +186,8 @@ module _ (ns : List ℕ) (l : List Action) (qs : List (Question × ℕ)) (r : Re
       go false q e = statement_goes q x e
       go true q e = follows x e
 
-  on_line : (i : ℕ) → Reads ns l qs (on_line r i)
-  on_line i = record { none = v.none; played = v.played; unasked = v.unasked; asks = v.asks }
+  on_line_reads : (i : ℕ) → Reads ns l qs (on_line r i)
+  on_line_reads i = record { none = v.none; played = v.played; unasked = v.unasked; asks = v.asks }
 
 feed_goes : (x : Line) (t : List ℕ) (ns : List ℕ) (l : List Action) (qs : List (Question × ℕ)) (r : Reader) → line_of T.Question t ≡ x → Goes ns l qs r
     → Goes (ns ++ nodes_in x) (l ++ acts_in x) (qs ++ asks_in x) (feed_of r t)
@@ -195,7 +195,7 @@ unfolding feed_of
 feed_goes x t ns l qs r o v = rw o (go r.stage refl)
   where
     go : (y : Stage) → r.stage ≡ y → Goes (ns ++ nodes_in x) (l ++ acts_in x) (qs ++ asks_in x) (cond (is_stopped y) r (line_taken (on_line r (counted r.line)) x))
-    go Going q e = line_goes ns l qs (on_line r (counted r.line)) (on_line ns l qs r (v q) (counted r.line)) x e
+    go Going q e = line_goes ns l qs (on_line r (counted r.line)) (on_line_reads ns l qs r (v q) (counted r.line)) x e
     go (Stopped f) q e = halts (sym q ∙ e)
 
 -- the lines of a text one after the other
