@@ -1,21 +1,23 @@
 // Prints the counts of how many sequences of signals leave a node in which mode on standard output: a line for each length from 0 to 16.
 #![tactic(auto)]
 
-use stream::Held;
+use std::io::Write;
+use stream::{Held, Output};
 
 // Writes the rows by way of a buffer.
-fn print(text: &mut [u8; 16384]) {
+fn print<W: Write>(err: &impl Eprint, to: &mut Output<W>, text: &mut [u8; 16384]) {
     let end = counting::put_counts(text);
     let held = Held {
         used: end,
         whole: true,
     };
-    if !stream::flush(text, held) {
-        os::fail(b"counts: standard output");
+    if !stream::flush(to, text, held) {
+        stream::tell(err, "counts: standard output", to.failure);
     }
 }
 
-fn main() {
+fn main(rt: HostRuntime) {
     let mut text = [0u8; 16384];
-    print(&mut text);
+    let mut to = Output::new(rt.stdout());
+    print(&rt.stderr(), &mut to, &mut text);
 }

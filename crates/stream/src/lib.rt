@@ -302,9 +302,12 @@ fn put_error(text: &mut [u8], error: io::Error) -> usize
 }
 
 // Says on standard error what failed, and why: a line as `play: standard output: No space left on device`.
-pub fn tell(rt: &impl Eprint, what: &str, error: io::Error) {
+pub fn tell(err: &impl Eprint, what: &str, failure: Option<io::Error>) {
     let mut text = [0u8; REASON];
-    let size = put_error(&mut text, error);
+    let size = match failure {
+        Some(error) => put_error(&mut text, error),
+        None => 0,
+    };
     let reason = reason_of(&text[..size]);
-    let _ = eprintln!(rt; "{what}: {reason}");
+    let _ = eprintln!(err; "{what}: {reason}");
 }

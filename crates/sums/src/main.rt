@@ -2,7 +2,8 @@
 // Its memory is constant: a block of input, the text of a block, a buffer of output, and how far the file is read.
 #![tactic(auto)]
 
-use stream::Held;
+use std::io::{Read, Write};
+use stream::{Held, Input, Output};
 use walk::reading::Reading;
 
 // A file has at most 2^32 blocks; one piece more shows whether bytes follow them.
@@ -17,17 +18,23 @@ struct Went {
 }
 
 // Reads and sums piece after piece, to the end of the input or to a refusal.
-fn sum_pieces(block: &mut [u8], text: &mut [u8; 2048], out: &mut [u8]) -> Went {
+fn sum_pieces<R: Read, W: Write>(
+    err: &impl Eprint,
+    from: &mut Input<R>,
+    to: &mut Output<W>,
+    block: &mut [u8],
+    text: &mut [u8; 2048],
+    out: &mut [u8],
+) -> Went {
     let mut s = walk::reading::start();
     let mut held = Held {
         used: 0,
         whole: true,
     };
-    let mut pieces: u64 = 0;
-    while pieces < PIECES {
-        let filled = stream::fill(block);
+    for _ in 0..PIECES {
+        let filled = stream::fill(from, block);
         if !filled.whole {
-            os::fail(b"sums: standard input");
+            stream::tell(err, "sums: standard input", from.failure);
             return Went {
                 reading: s,
                 held: held,
@@ -44,7 +51,7 @@ fn sum_pieces(block: &mut [u8], text: &mut [u8; 2048], out: &mut [u8]) -> Went {
         }
         let fed = summing::feed(s, &block[..count], text);
         s = fed.reading;
-        held = stream::collect(out, held, text, fed.end);
+        held = stream::collect(to, out, held, text, fed.end);
         if fed.ended || !held.whole {
             return Went {
                 reading: s,
@@ -52,7 +59,6 @@ fn sum_pieces(block: &mut [u8], text: &mut [u8; 2048], out: &mut [u8]) -> Went {
                 over: true,
             };
         }
-        pieces += 1;
     }
     Went {
         reading: s,
@@ -62,27 +68,43 @@ fn sum_pieces(block: &mut [u8], text: &mut [u8; 2048], out: &mut [u8]) -> Went {
 }
 
 // The line for the file's end, unless it was over before.
-fn finish(went: Went, text: &mut [u8; 2048], out: &mut [u8]) -> Held {
+fn finish<W: Write>(to: &mut Output<W>, went: Went, text: &mut [u8; 2048], out: &mut [u8]) -> Held {
     if went.over {
         return went.held;
     }
     let s = went.reading;
     let end = summing::finish(s, text);
-    stream::collect(out, went.held, text, end)
+    stream::collect(to, out, went.held, text, end)
 }
 
 // Sums the input, and writes what the output buffer then holds.
-fn sum(block: &mut [u8], text: &mut [u8; 2048], out: &mut [u8]) {
-    let went = sum_pieces(block, text, out);
-    let held = finish(went, text, out);
-    if !stream::flush(out, held) {
-        os::fail(b"sums: standard output");
+fn sum<R: Read, W: Write>(
+    err: &impl Eprint,
+    from: &mut Input<R>,
+    to: &mut Output<W>,
+    block: &mut [u8],
+    text: &mut [u8; 2048],
+    out: &mut [u8],
+) {
+    let went = sum_pieces(err, from, to, block, text, out);
+    let held = finish(to, went, text, out);
+    if !stream::flush(to, out, held) {
+        stream::tell(err, "sums: standard output", to.failure);
     }
 }
 
-fn main() {
+fn main(rt: HostRuntime) {
     let mut block = [0u8; 512];
     let mut text = [0u8; 2048];
-    let mut out = io::large_buffer();
-    sum(&mut block, &mut text, &mut out);
+    let mut out = [0u8; 65536];
+    let mut from = Input::new(rt.stdin());
+    let mut to = Output::new(rt.stdout());
+    sum(
+        &rt.stderr(),
+        &mut from,
+        &mut to,
+        &mut block,
+        &mut text,
+        &mut out,
+    );
 }
