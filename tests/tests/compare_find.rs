@@ -35,11 +35,26 @@ fn stand_ins() {
         let errors = wrong(&["compare-find", "--files", "600"], &program, part);
         assert!(errors.contains("again: model compare-find FIND --seed 1 --only "), "{errors}");
     };
-    wrong_find("none", &altered("find", "sed 's/.*/none/;q'"), "program: 'none'; model: '");
-    wrong_find("route", &altered("find", "sed 's/^none/pass/'"), "model: 'none'");
-    wrong_find("short", &altered("find", "sed '1!{$d}'"), "program: '");
-    wrong_find("spelt", &altered("find", "sed 's/^pass$/pass * 1/'"), "program: '");
-    wrong_find("no-newline", &altered("find", "tr -d '\\n'"), "...'; model: '");
+    wrong_find("none", &altered("find", "sed 's/.*/none/;q'"), "it says none, and the model");
+    wrong_find("route", &altered("find", "sed 's/^none/pass/'"), "");
+    wrong_find("short", &altered("find", "sed '1!{$d}'"), "its last action reports ");
+    wrong_find("spelt", &altered("find", "sed 's/^pass$/pass * 1/'"), "not as list prints it: ");
+    wrong_find(
+        "repeat",
+        &altered("find", "sed 's/^clock.*/& * 2/'"),
+        "is no action of kinds 4 to 9",
+    );
+    wrong_find("no-newline", &altered("find", "tr -d '\\n'"), "");
+    // The bytes are shown beside, whatever else is wrong.
+    for (name, filter, part) in [
+        ("none-shown", "sed 's/.*/none/;q'", "; program: 'none'; model: '"),
+        ("route-shown", "sed 's/^none/pass/'", "model: 'none'"),
+        ("short-shown", "sed '1!{$d}'", "; program: '"),
+        ("spelt-shown", "sed 's/^pass$/pass * 1/'", "; program: '"),
+        ("no-newline-shown", "tr -d '\\n'", "...'; model: '"),
+    ] {
+        wrong_find(name, &altered("find", filter), part);
+    }
     // Another one of the shortest routes.
     wrong_find("change", &altered("find", "sed 's/^lose$/change/'"), "model: '");
     let swapped = "sed '/^clock/{N;s/^\\(clock .*\\)\\n\\(clock .*\\)$/\\2\\n\\1/}'";
@@ -61,7 +76,8 @@ fn stand_ins() {
     wrong_probe("12", &altered("probe", "sed 's/refused 12/refused 14/'"), "model: 'refused 12'");
     wrong_probe("14", &altered("probe", "sed 's/refused 14/refused 4/'"), "model: 'refused 14'");
     wrong_probe("4", &altered("probe", "sed 's/refused 4/none/'"), "model: 'refused 4'");
-    wrong_probe("no-none", &altered("probe", "sed 's/none/gap/'"), "model: 'none'");
+    wrong_probe("no-none", &altered("probe", "sed 's/none/gap/'"), "");
+    wrong_probe("none-shown", &altered("probe", "sed 's/none/gap/'"), "model: 'none'");
     wrong_probe("pass", &altered("probe", "sed 's/^pass$/lose/'"), "lose");
     wrong_probe("one", "head -c 384 | \"$model\" probe", "1 answers to 10 questions");
     wrong_probe("end", &altered("probe", "sed '$d'"), "the last answer has no empty line after it");

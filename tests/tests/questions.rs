@@ -318,7 +318,7 @@ fn random_texts() {
         let checked = case.check(&read, |asked| asked.question);
         assert_eq!(checked, Ok(()), "{way:?}: {}", String::from_utf8_lossy(&case.text));
         let hits = match &read {
-            Ok(asked) => aims::hits_of_answer(&case.text, asked, &[]),
+            Ok(asked) => aims::hits_of_answer(&case.text, asked, &None),
             Err(complaint) => aims::hits_of_fault(&case.text, complaint),
         };
         assert!(!hits.is_empty(), "{way:?}: {}", String::from_utf8_lossy(&case.text));
@@ -341,28 +341,16 @@ fn other_depths() {
     }
 }
 
-/// The answer to the question that these bytes say.
-fn answered(bytes: &Bytes) -> String {
-    let (bus, question) = probe::read(bytes).expect("a question");
-    let mut text = Vec::new();
-    probe::answer(&mut text, &bus, &question);
-    String::from_utf8(text).expect("plain text")
-}
-
 /// "Gapping from 0, node 0 in AwaitAck" by hand, and every made state back from its bytes.
 #[test]
 fn states_as_bytes() {
     let mut bytes: Bytes = [0; 384];
     (bytes[0], bytes[1], bytes[12], bytes[14]) = (2, 4, 5, 1);
     bytes[24] = 1;
-    assert_eq!(answered(&bytes), "gap\n\n");
-    // Busy, with nodes 1 and 2 Spurious: "the lower byte where they first differ comes first".
-    let mut busy = bytes;
-    (busy[0], busy[1], busy[14]) = (3, 1, 6);
-    for node in [64, 104] {
-        (busy[node], busy[node + 7]) = (19, 1);
-    }
-    assert_eq!(answered(&busy), "clock 1\nclock 2\ngap\n\n");
+    let mut text = Vec::new();
+    let (bus, question) = probe::read(&bytes).expect("a question");
+    probe::answer(&mut text, &bus, &question);
+    assert_eq!(text, b"gap\n\n");
     for (place, none) in [(1, 5), (12, 0), (12, 10), (24, 22)] {
         let mut bytes = bytes;
         bytes[place] = none;
@@ -373,6 +361,22 @@ fn states_as_bytes() {
         let handed = way.make(&mut random);
         assert_eq!(probe::read(&handed.bytes), Some((handed.bus, handed.question)), "{way:?}");
     }
+}
+
+/// Busy, with nodes 1 and 2 Spurious, node 0 in AwaitAck: "the lower byte where they first differ comes
+/// first".
+#[test]
+fn the_first_route_of_a_state() {
+    let mut bytes: Bytes = [0; 384];
+    (bytes[0], bytes[1], bytes[12], bytes[14]) = (3, 1, 5, 6);
+    bytes[24] = 1;
+    for node in [64, 104] {
+        (bytes[node], bytes[node + 7]) = (19, 1);
+    }
+    let mut text = Vec::new();
+    let (bus, question) = probe::read(&bytes).expect("a question");
+    probe::answer(&mut text, &bus, &question);
+    assert_eq!(text, b"clock 1\nclock 2\ngap\n\n");
 }
 
 /// Each byte of the layout, by hand.

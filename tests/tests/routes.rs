@@ -1,17 +1,18 @@
 //! "A route to an outcome" (request 9) and "The first route" (request 11): the numbers in their order,
 //! and the search, by hand on the marked cases, on equally short routes and on states handed in, and
-//! against a search that tries records in the order of their bytes.
+//! against an exhaustive search depth first and one that tries records in the order of their bytes.
 
 mod common;
 
 use bench_model::bus::{Action, Bus, Marks, Mode, Phase, Record, Refusal, Report, Signal};
+use bench_model::harness::answers::{judge, look};
 use bench_model::harness::driver::{Driver, Style};
 use bench_model::harness::equally_short::{differences, each, Differences, OF_RUNS, OF_STATES};
 use bench_model::harness::parts;
 use bench_model::harness::questions::question;
 use bench_model::harness::random::Random;
 use bench_model::harness::states::StateWay;
-use bench_model::routes::{events, find, first, print, shortest, Question, DEEPEST};
+use bench_model::routes::{self, events, find, first, print, Question, DEEPEST};
 use common::*;
 
 fn asks(word: &'static str, node: u8, depth: u8) -> Question {
@@ -111,9 +112,13 @@ fn case_d() {
     let mut run = case_b();
     run[9] = lose();
     assert_eq!(first_at(&after(2, &run[..14]), "miss", 0, 3), "grant, clock 1, gap");
-    // In HeadOwn the Data are dropped, good or bad; if they are lost too, the End is. Kind 5 comes first.
     let data = after(2, &run[..11]);
-    assert_eq!(first_at(&data, "miss", 0, 6), "pass, clock 0, pass, grant, clock 1, gap");
+    let way = first_at(&data, "miss", 0, 6);
+    let ways = ["pass", "lose", "change"]
+        .map(|first| format!("{first}, clock 0, pass, grant, clock 1, gap"));
+    assert!(ways.contains(&way), "{way}");
+    // In HeadOwn the Data are dropped, good or bad; if they are lost too, the End is. Kind 5 comes first.
+    assert_eq!(way, "pass, clock 0, pass, grant, clock 1, gap");
     // From the Header on it takes two actions more.
     assert_eq!(route(&after(2, &run[..9]), asks("miss", 0, 6)), "none");
     assert_eq!(route(&data, asks("miss", 1, 6)), "none");
@@ -124,8 +129,10 @@ fn case_d() {
 fn case_e() {
     let ack = after(2, &case_b()[..19]);
     assert_eq!(first_at(&ack, "ack", 0, 3), "pass, clock 1, pass");
+    let way = first_at(&ack, "miss", 0, 3);
+    assert!(["lose, clock 1, pass", "change, clock 1, pass"].contains(&&way[..]), "{way}");
     // Lost or changed, the End is missed: kind 6 comes before 7.
-    assert_eq!(first_at(&ack, "miss", 0, 3), "lose, clock 1, pass");
+    assert_eq!(way, "lose, clock 1, pass");
 }
 
 /// Case F: node 2 is in the way of node 1's acknowledgement, and drops what it took for its own.
@@ -135,8 +142,12 @@ fn case_f() {
     run.extend([clock(0), pass(), pass()].repeat(2));
     run.push(clock(0));
     let dest = after(3, &run);
-    // Whatever node 1 gets, node 2 reads on by its own number or by 63 alone, and drops at the Header.
-    assert_eq!(first_at(&dest, "drop", 2, 5), "pass, change 2, clock 0, pass, pass");
+    // Whatever node 1 gets, node 2 reads on only by a change: it drops at the Header, as in the case.
+    let way = first_at(&dest, "drop", 2, 5);
+    let second = way.split(", ").nth(1);
+    assert!(matches!(second, Some("change 2" | "change all")), "{way}");
+    // By its own number or by 63 alone.
+    assert_eq!(way, "pass, change 2, clock 0, pass, pass");
     run.extend([pass(), change(2)]);
     run.extend([clock(0), pass(), pass()].repeat(3));
     run.extend([grant(), grant(), respond(1, 1, 0)]);
@@ -208,7 +219,9 @@ fn states_handed_in() {
     bus.nodes[2].mode = Mode::Spurious;
     bus.holder = Marks(0b0110);
     bus.phase = Phase::Busy;
-    assert_eq!(first_at(&bus, "miss", 0, 3), "clock 1, clock 2, gap");
+    let way = first_at(&bus, "miss", 0, 3);
+    assert!(["clock 1, clock 2, gap", "clock 2, clock 1, gap"].contains(&&way[..]), "{way}");
+    assert_eq!(way, "clock 1, clock 2, gap");
     bus.holder = Marks(0b1110);
     assert_eq!(route(&bus, asks("miss", 0, 6)), "none");
     // Granting with nobody pending.
@@ -229,7 +242,11 @@ fn packets_to_the_node_itself() {
     bus.nodes[1].mode = Mode::Sending { step: 5 };
     assert_eq!(first_at(&bus, "miss", 1, 4), "clock 1, pass, gap, gap");
     bus.nodes[1].mode = Mode::Sending { step: 4 };
-    assert_eq!(first_at(&bus, "miss", 1, 6), "clock 1, pass, clock 1, pass, gap, gap");
+    let way = first_at(&bus, "miss", 1, 6);
+    let ways =
+        ["pass", "lose", "change"].map(|data| format!("clock 1, {data}, clock 1, pass, gap, gap"));
+    assert!(ways.contains(&way), "{way}");
+    assert_eq!(way, "clock 1, pass, clock 1, pass, gap, gap");
     bus.nodes[1].mode = Mode::Sending { step: 3 };
     assert_eq!(route(&bus, asks("miss", 1, 6)), "none");
     // Nobody else hears of it.
@@ -461,6 +478,35 @@ fn the_first_of_two() {
     assert_eq!(first(&[]), None);
 }
 
+/// Each of these that a program could print is a route; the first alone is the answer.
+fn only_the_first(bus: &Bus, question: Question, ways: &[&str]) {
+    let ours = find(bus, &question).expect("not refused");
+    for (place, way) in ways.iter().enumerate() {
+        let theirs = way.replace(", ", "\n") + "\n";
+        assert_eq!(look(bus, &question, &ours, theirs.as_bytes()), Ok(()), "{way}");
+        let judged = judge(bus, &question, &ours, theirs.as_bytes());
+        assert_eq!(judged.is_ok(), place == 0, "{way}: {judged:?}");
+    }
+}
+
+#[test]
+fn routes_and_the_answer() {
+    let run = case_b();
+    let ack = ["lose, clock 1, pass", "change, clock 1, pass"];
+    only_the_first(&after(2, &run[..19]), asks("miss", 0, 3), &ack);
+    // A longer one is a route, too.
+    let longer = ["change", "lose, clock 0, pass", "pass, clock 0, lose, clock 0, pass"];
+    only_the_first(&after(2, &run[..9]), asks("drop", 1, 6), &longer);
+    let mut run = all_owed(3);
+    run.extend([grant(), grant()]);
+    let clocks = ["clock 1, clock 2, gap", "clock 2, clock 1, gap"];
+    only_the_first(&after(3, &run), asks("miss", 0, 6), &clocks);
+    let mut run = signals(3, 1, 2);
+    run.extend([clock(0), pass()]);
+    let changes = ["change 2, clock 0, pass, pass", "change all, clock 0, pass, pass"];
+    only_the_first(&after(3, &run), asks("drop", 2, 6), &changes);
+}
+
 /// "of kinds 4 to 9": a request from Holding and a respond would lead to a Start, by which node 1 drops
 /// what it reads. Bus events lead to Prefixes alone, by which it is told.
 #[test]
@@ -476,6 +522,22 @@ fn no_other_kinds() {
         bus.step(&action).expect("it is open");
         assert_eq!(first_at(&bus, "drop", 1, 2), "clock 0, pass");
     }
+}
+
+/// The shortest length there is, by trying all continuations depth first.
+fn depth_first(bus: &Bus, question: &Question, left: u8) -> Option<usize> {
+    if left == 0 {
+        return None;
+    }
+    let tried = events(bus.n).filter_map(|action| {
+        let mut bus = bus.clone();
+        let reported = bus.step(&action.into()).ok()?;
+        match question.is_given(reported) {
+            true => Some(1),
+            false => depth_first(&bus, question, left - 1).map(|length| length + 1),
+        }
+    });
+    tried.min()
 }
 
 /// The route that is met first if at each place the records are tried in the order of their bytes, for
@@ -508,6 +570,32 @@ fn check(bus: &Bus, question: &Question, route: &[Action]) {
         last = bus.step(&record).expect("each action is open");
     }
     assert!(!route.is_empty() && route.len() <= question.depth.into() && question.is_given(last));
+}
+
+/// A shortest route against the exhaustive search, at states of runs.
+#[test]
+fn shortest() {
+    let mut random = Random::new(9);
+    let mut lengths = [0; 7];
+    for _ in 0..400 {
+        let n = random.pick(&[2, 2, 3]);
+        let style = Style::random(&mut random, n);
+        let mut driver = Driver::new(fresh(n), Random::new(random.draw()), style);
+        for _ in 0..random.between(1, 120) {
+            let _ = driver.play();
+        }
+        let mut question = question(&mut random, &driver.bus);
+        // Three nodes take long to search depth first.
+        question.depth = question.depth.min(if n == 2 { 6 } else { 4 });
+        let found = find(&driver.bus, &question).expect("not refused");
+        let length = found.as_ref().map(Vec::len);
+        assert_eq!(length, depth_first(&driver.bus, &question, question.depth), "{question:?}");
+        if let Some(route) = &found {
+            check(&driver.bus, &question, route);
+        }
+        lengths[length.unwrap_or(0)] += 1;
+    }
+    assert!(lengths.iter().all(|&count| count > 0), "{lengths:?}");
 }
 
 /// A state after a run, and a question.
@@ -568,7 +656,7 @@ fn at_every_depth() {
 /// What README.md says cannot be: another first difference than these, and a first route in which a Dest
 /// is changed to 63 or to a node over 4.
 fn only_these(bus: &Bus, question: &Question, all: &Differences) {
-    let shortest = shortest(bus, question).expect("not refused");
+    let shortest = routes::shortest(bus, question).expect("not refused");
     for (difference, _) in differences(bus, &shortest) {
         assert!(each(all).any(|other| other == difference), "{difference}: {question:?} {bus:?}");
     }

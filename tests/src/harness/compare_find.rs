@@ -1,6 +1,7 @@
 //! `model compare-find`: questions in plain words through the program `find` and through the model.
-//! Standard output and standard error are compared byte for byte; what has a route is asked at every
-//! other depth too.
+//! Standard error is compared byte for byte; of standard output, whether there is a route, that what is
+//! printed is one, and that it is the model's, byte for byte. What has a route is asked at every other
+//! depth too.
 
 use std::path::Path;
 
@@ -52,7 +53,7 @@ fn one_text(options: &Options, index: u64, path: &Path, hits: &mut Hits) -> Resu
     Ok(())
 }
 
-/// A right question: "the first route of at most DEPTH actions […] or the line `none`".
+/// A right question: "a route of at most DEPTH actions […] or the line `none`", and the first such.
 fn one_answer(
     options: &Options,
     asked: &Asked,
@@ -62,20 +63,25 @@ fn one_answer(
     let Asked { bus, question } = asked;
     let shortest = routes::shortest(bus, question).expect("what was read is not refused");
     let ours = routes::first(&shortest);
-    look(ran, &ours)?;
-    let mut hits = aims::hits_of_answer(text, asked, &shortest);
+    ends_well(ran)?;
+    answers::judge(bus, question, &ours, &ran.text)?;
+    let mut hits = aims::hits_of_answer(text, asked, &ours);
+    hits.extend(answers::hits_of_first(bus, &shortest));
     if let Some(route) = ours {
         hits.extend(other_depths(options, asked, text, &route)?);
     }
     Ok(hits)
 }
 
-/// What the program printed for a right question is this answer.
-fn look(ran: &child::Ran, ours: &Route) -> Result<(), String> {
-    match difference(ran, &ran.text, b"") {
-        Some(why) => Err(why),
-        None => answers::look(ours, &ran.text),
-    }
+/// The program ended as for a right question, whatever it printed.
+fn ends_well(ran: &child::Ran) -> Result<(), String> {
+    difference(ran, &ran.text, b"").map_or(Ok(()), Err)
+}
+
+/// The same, and it printed this answer.
+fn answers_so(ran: &child::Ran, ours: &Route) -> Result<(), String> {
+    ends_well(ran)?;
+    answers::equal(ours, &ran.text)
 }
 
 /// "every depth that is not refused and not less than its length gets the same route"
@@ -90,7 +96,7 @@ fn other_depths(
         let text = within(text, &asked.question, depth);
         let ran = run(options.program, &[], Input::Pipe(&text, text.len()), 0)?;
         let ours = (route.len() <= depth.into()).then(|| route.to_vec());
-        look(&ran, &ours).map_err(|why| format!("within {depth}: {why}"))?;
+        answers_so(&ran, &ours).map_err(|why| format!("within {depth}: {why}"))?;
         Ok(again(depth, ours.is_some()))
     };
     others.map(one).collect()

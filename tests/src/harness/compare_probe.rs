@@ -1,5 +1,6 @@
 //! `model compare-probe`: questions about states handed in, as bytes, through the program `probe` and
-//! through the model. The answers are compared byte for byte.
+//! through the model. Refusals must be the same; a route must be one, `none` said by both or by neither,
+//! and the answers equal byte for byte.
 
 use std::path::Path;
 
@@ -14,7 +15,7 @@ use super::states::{Handed, StateWay, CARRIED, FLAWS, OTHER_KINDS, SIZES};
 use super::workers;
 use crate::bus::{Mode, Refusal};
 use crate::probe::LENGTH;
-use crate::routes::{self, DEEPEST, MOST_NODES};
+use crate::routes::{self, Route, DEEPEST, MOST_NODES};
 
 pub struct Options<'a> {
     pub program: &'a Path,
@@ -44,8 +45,9 @@ fn aims() -> Vec<String> {
         .chain(CARRIED.map(StateWay::Carried))
         .chain(OTHER_KINDS.map(StateWay::OtherKind));
     let to_itself = [IN_BUFFER, BEING_SENT, TO_ITS_MISS].map(String::from);
-    answers::aims(&places, &OF_STATES)
+    answers::aims(&places)
         .into_iter()
+        .chain(answers::aims_of_first(&OF_STATES))
         .chain(refusals)
         .chain(orders)
         .chain(ways.map(of_way))
@@ -65,15 +67,15 @@ const IN_BUFFER: &str = "a packet to the node itself in its buffer, not refused"
 const BEING_SENT: &str = "a packet to the node itself being sent, not refused";
 const TO_ITS_MISS: &str = "a packet to the node itself being sent, and a route to its miss";
 
-/// Which of these a state has hit, whose question has a route or none.
-fn hits_to_itself(handed: &Handed, found: bool) -> Vec<String> {
+/// Which of these a state with this answer has hit.
+fn hits_to_itself(handed: &Handed, route: &Route) -> Vec<String> {
     let Handed { bus, question, .. } = handed;
     let waits = |node| bus.node(node).buffer.is_some_and(|packet| packet.address == node);
     let sends = |node| {
         let record = bus.node(node);
         matches!(record.mode, Mode::Sending { .. }) && record.sending.address == node
     };
-    let to_its_miss = question.word == "miss" && sends(question.node) && found;
+    let to_its_miss = question.word == "miss" && sends(question.node) && route.is_some();
     let hits = [
         ((0..bus.n).any(waits), IN_BUFFER),
         ((0..bus.n).any(sends), BEING_SENT),
@@ -146,14 +148,16 @@ fn split(text: &[u8], count: usize) -> Result<Vec<&[u8]>, String> {
     }
 }
 
-/// What the question has hit, if the answer is the model's.
+/// What the question has hit, if the answer is right.
 fn one_state(handed: &Handed, theirs: &[u8]) -> Result<Vec<String>, String> {
     let Handed { bus, question, .. } = handed;
     match routes::shortest(bus, question) {
         Ok(shortest) => {
-            answers::look(&routes::first(&shortest), theirs)?;
-            let mut hits = answers::hits(bus, question, &shortest);
-            hits.extend(hits_to_itself(handed, !shortest.is_empty()));
+            let ours = routes::first(&shortest);
+            answers::judge(bus, question, &ours, theirs)?;
+            let mut hits = answers::hits(bus, question, &ours);
+            hits.extend(answers::hits_of_first(bus, &shortest));
+            hits.extend(hits_to_itself(handed, &ours));
             Ok(hits)
         }
         Err(refusal) => {

@@ -1,6 +1,6 @@
 //! What texts of questions must hit.
 
-use crate::bus::{Action, Record, Report, ALL_NODES};
+use crate::bus::{Record, Report, ALL_NODES};
 use crate::harness::answers;
 use crate::harness::equally_short::OF_RUNS;
 use crate::harness::seen::{is_blank, of, Aims, Seen, Sight};
@@ -9,7 +9,7 @@ use crate::harness::texts::spelling::NAMES;
 use crate::notation::{self, print_action};
 use crate::plain::{words, Complaint, Fault};
 use crate::questions::{read, read_line, Asked, Line};
-use crate::routes::{Question, DEEPEST, MOST_NODES};
+use crate::routes::{Question, Route, DEEPEST, MOST_NODES};
 
 use super::PLACES;
 
@@ -165,7 +165,8 @@ fn not_open(name: &str) -> String {
 
 pub fn aims() -> Vec<String> {
     let closed = NAMES[1..].iter().map(|name| not_open(name));
-    all().names().into_iter().chain(closed).chain(answers::aims(&PLACES, &OF_RUNS)).collect()
+    let of_first = answers::aims_of_first(&OF_RUNS);
+    all().names().into_iter().chain(closed).chain(answers::aims(&PLACES)).chain(of_first).collect()
 }
 
 /// What a wrong text has hit.
@@ -179,9 +180,9 @@ pub fn hits_of_fault(text: &[u8], complaint: &Complaint) -> Vec<String> {
     hits
 }
 
-/// What a right one has hit, to which these are the shortest routes.
-pub fn hits_of_answer(text: &[u8], asked: &Asked, shortest: &[Vec<Action>]) -> Vec<String> {
+/// What a right one has hit, to which the model gives this answer.
+pub fn hits_of_answer(text: &[u8], asked: &Asked, route: &Route) -> Vec<String> {
     let mut hits = all().hits(&Seen::new(text, None));
-    hits.extend(answers::hits(&asked.bus, &asked.question, shortest));
+    hits.extend(answers::hits(&asked.bus, &asked.question, route));
     hits
 }
