@@ -2,7 +2,8 @@
 // Its memory is constant: a block of input, the text of a block, a buffer of output, and how far the file is read.
 #![tactic(auto)]
 
-use stream::Held;
+use std::io::{Read, Write};
+use stream::{Held, Input, Output};
 use walk::reading::Reading;
 
 // A file has at most 2^32 blocks; one piece more shows whether bytes follow them.
@@ -17,17 +18,23 @@ struct Went {
 }
 
 // Reads and lists piece after piece, to the end of the input or of the listing.
-fn list_pieces(block: &mut [u8], text: &mut [u8; 2048], out: &mut [u8]) -> Went {
+fn list_pieces<R: Read, W: Write>(
+    err: &impl Eprint,
+    from: &mut Input<R>,
+    to: &mut Output<W>,
+    block: &mut [u8],
+    text: &mut [u8; 2048],
+    out: &mut [u8],
+) -> Went {
     let mut l = walk::reading::start();
     let mut held = Held {
         used: 0,
         whole: true,
     };
-    let mut pieces: u64 = 0;
-    while pieces < PIECES {
-        let filled = stream::fill(block);
+    for _ in 0..PIECES {
+        let filled = stream::fill(from, block);
         if !filled.whole {
-            os::fail(b"list: standard input");
+            stream::tell(err, "list: standard input", from.failure);
             return Went {
                 reading: l,
                 held: held,
@@ -44,7 +51,7 @@ fn list_pieces(block: &mut [u8], text: &mut [u8; 2048], out: &mut [u8]) -> Went 
         }
         let fed = listing::feed(l, &block[..count], text);
         l = fed.reading;
-        held = stream::collect(out, held, text, fed.end);
+        held = stream::collect(to, out, held, text, fed.end);
         if fed.ended || !held.whole {
             return Went {
                 reading: l,
@@ -52,7 +59,6 @@ fn list_pieces(block: &mut [u8], text: &mut [u8; 2048], out: &mut [u8]) -> Went 
                 over: true,
             };
         }
-        pieces += 1;
     }
     Went {
         reading: l,
@@ -62,27 +68,43 @@ fn list_pieces(block: &mut [u8], text: &mut [u8; 2048], out: &mut [u8]) -> Went 
 }
 
 // The line for the file's end, unless the listing was over before.
-fn finish(went: Went, text: &mut [u8; 2048], out: &mut [u8]) -> Held {
+fn finish<W: Write>(to: &mut Output<W>, went: Went, text: &mut [u8; 2048], out: &mut [u8]) -> Held {
     if went.over {
         return went.held;
     }
     let l = went.reading;
     let end = listing::finish(l, text);
-    stream::collect(out, went.held, text, end)
+    stream::collect(to, out, went.held, text, end)
 }
 
 // Lists the input, and writes what the output buffer then holds.
-fn list(block: &mut [u8], text: &mut [u8; 2048], out: &mut [u8]) {
-    let went = list_pieces(block, text, out);
-    let held = finish(went, text, out);
-    if !stream::flush(out, held) {
-        os::fail(b"list: standard output");
+fn list<R: Read, W: Write>(
+    err: &impl Eprint,
+    from: &mut Input<R>,
+    to: &mut Output<W>,
+    block: &mut [u8],
+    text: &mut [u8; 2048],
+    out: &mut [u8],
+) {
+    let went = list_pieces(err, from, to, block, text, out);
+    let held = finish(to, went, text, out);
+    if !stream::flush(to, out, held) {
+        stream::tell(err, "list: standard output", to.failure);
     }
 }
 
-fn main() {
+fn main(rt: HostRuntime) {
     let mut block = [0u8; 512];
     let mut text = [0u8; 2048];
-    let mut out = io::large_buffer();
-    list(&mut block, &mut text, &mut out);
+    let mut out = [0u8; 65536];
+    let mut from = Input::new(rt.stdin());
+    let mut to = Output::new(rt.stdout());
+    list(
+        &rt.stderr(),
+        &mut from,
+        &mut to,
+        &mut block,
+        &mut text,
+        &mut out,
+    );
 }

@@ -5,7 +5,8 @@
 ghost use Rattle.std.specs.Prelude.{◌<◌, ◌≤◌};
 
 use player::Player;
-use stream::Held;
+use std::io::{Read, Write};
+use stream::{Held, Input, Output};
 
 const BLOCK: usize = 512;
 
@@ -33,7 +34,14 @@ fn piece_end(at: usize, size: usize) -> usize
 }
 
 // Feeds the player the pieces of some input.
-fn play_input(p: Player, input: &[u8], text: &mut [u8; 2048], out: &mut [u8], held: Held) -> Went {
+fn play_input<W: Write>(
+    to: &mut Output<W>,
+    p: Player,
+    input: &[u8],
+    text: &mut [u8; 2048],
+    out: &mut [u8],
+    held: Held,
+) -> Went {
     let mut q = p;
     let mut kept = held;
     let mut at: usize = 0;
@@ -41,7 +49,7 @@ fn play_input(p: Player, input: &[u8], text: &mut [u8; 2048], out: &mut [u8], he
         let stop = piece_end(at, input.len());
         let fed = player::feed(q, &input[at..stop], text);
         q = fed.player;
-        kept = stream::collect(out, kept, text, fed.end);
+        kept = stream::collect(to, out, kept, text, fed.end);
         if fed.ended || !kept.whole {
             return Went {
                 player: q,
@@ -59,17 +67,23 @@ fn play_input(p: Player, input: &[u8], text: &mut [u8; 2048], out: &mut [u8], he
 }
 
 // Reads and plays chunk after chunk, to the end of the input or of the run.
-fn play_chunks(input: &mut [u8], text: &mut [u8; 2048], out: &mut [u8]) -> Went {
+fn play_chunks<R: Read, W: Write>(
+    err: &impl Eprint,
+    from: &mut Input<R>,
+    to: &mut Output<W>,
+    input: &mut [u8],
+    text: &mut [u8; 2048],
+    out: &mut [u8],
+) -> Went {
     let mut p = player::start();
     let mut held = Held {
         used: 0,
         whole: true,
     };
-    let mut chunks: u32 = 0;
-    while chunks < CHUNKS {
-        let filled = stream::fill(input);
+    for _ in 0..CHUNKS {
+        let filled = stream::fill(from, input);
         if !filled.whole {
-            os::fail(b"play: standard input");
+            stream::tell(err, "play: standard input", from.failure);
             return Went {
                 player: p,
                 held: held,
@@ -77,13 +91,12 @@ fn play_chunks(input: &mut [u8], text: &mut [u8; 2048], out: &mut [u8]) -> Went 
             };
         }
         let count = filled.count;
-        let went = play_input(p, &input[..count], text, out, held);
+        let went = play_input(to, p, &input[..count], text, out, held);
         if went.over || count < input.len() {
             return went;
         }
         p = went.player;
         held = went.held;
-        chunks += 1;
     }
     Went {
         player: p,
@@ -93,27 +106,43 @@ fn play_chunks(input: &mut [u8], text: &mut [u8; 2048], out: &mut [u8]) -> Went 
 }
 
 // The line for the file's end, unless the run was over before.
-fn finish(went: Went, text: &mut [u8; 2048], out: &mut [u8]) -> Held {
+fn finish<W: Write>(to: &mut Output<W>, went: Went, text: &mut [u8; 2048], out: &mut [u8]) -> Held {
     if went.over {
         return went.held;
     }
     let p = went.player;
     let end = player::finish(p, text);
-    stream::collect(out, went.held, text, end)
+    stream::collect(to, out, went.held, text, end)
 }
 
 // Plays the input, and writes what the output buffer then holds.
-fn play(input: &mut [u8], text: &mut [u8; 2048], out: &mut [u8]) {
-    let went = play_chunks(input, text, out);
-    let held = finish(went, text, out);
-    if !stream::flush(out, held) {
-        os::fail(b"play: standard output");
+fn play<R: Read, W: Write>(
+    err: &impl Eprint,
+    from: &mut Input<R>,
+    to: &mut Output<W>,
+    input: &mut [u8],
+    text: &mut [u8; 2048],
+    out: &mut [u8],
+) {
+    let went = play_chunks(err, from, to, input, text, out);
+    let held = finish(to, went, text, out);
+    if !stream::flush(to, out, held) {
+        stream::tell(err, "play: standard output", to.failure);
     }
 }
 
-fn main() {
-    let mut input = io::large_buffer();
+fn main(rt: HostRuntime) {
+    let mut input = [0u8; 65536];
     let mut text = [0u8; 2048];
-    let mut out = io::large_buffer();
-    play(&mut input, &mut text, &mut out);
+    let mut out = [0u8; 65536];
+    let mut from = Input::new(rt.stdin());
+    let mut to = Output::new(rt.stdout());
+    play(
+        &rt.stderr(),
+        &mut from,
+        &mut to,
+        &mut input,
+        &mut text,
+        &mut out,
+    );
 }

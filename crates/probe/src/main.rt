@@ -4,7 +4,8 @@
 ghost use Rattle.std.specs.Prelude.{◌≡◌, ◌≤◌, length};
 
 use charts::{Buffer, Bus, Datum, Head, Mode, Node, Packet, Phase, Question, Seen, Signal, Word};
-use stream::Held;
+use std::io::{Read, Write};
+use stream::{Held, Input, Output};
 
 // A head of 24 bytes, and 9 nodes of 40 bytes.
 const SIZE: usize = 384;
@@ -163,8 +164,7 @@ fn bus_of(question: &[u8]) -> Bus
     let mut pending = fresh.pending;
     let mut holder = fresh.holder;
     let mut misled = fresh.misled;
-    let mut k: usize = 0;
-    while k < NODES {
+    for k in 0..NODES {
         let from = HEAD + NODE * k;
         let part = &question[from..];
         nodes[k] = node_of(part);
@@ -172,7 +172,6 @@ fn bus_of(question: &[u8]) -> Bus
         pending[k] = flag(part, 6);
         holder[k] = flag(part, 7);
         misled[k] = flag(part, 8);
-        k += 1;
     }
     Bus {
         n: byte(question, 0),
@@ -201,7 +200,7 @@ fn word_of(place: u8) -> Word {
 }
 
 // Answers a question; whether the answer was written.
-fn answer(question: &[u8]) -> bool
+fn answer<W: Write>(to: &mut Output<W>, question: &[u8]) -> bool
     requires { length question.now ≡ 384 }
 {
     let q = Question {
@@ -215,28 +214,33 @@ fn answer(question: &[u8]) -> bool
         used: transcript::put_word(&mut text, end, b"\n"),
         whole: true,
     };
-    stream::flush(&text, held)
+    stream::flush(to, &text, held)
 }
 
-// A proved loop has to end, so it counts its turns down from a number that no input uses up.
-fn run(question: &mut [u8])
+// A proved loop has to end, so it has as many turns as no input uses up.
+fn run<R: Read, W: Write>(
+    err: &impl Eprint,
+    from: &mut Input<R>,
+    to: &mut Output<W>,
+    question: &mut [u8],
+)
     requires { length question.old ≡ 384 }
 {
-    let mut turns = u64::MAX;
-    while 0 < turns {
-        let filled = stream::fill(question);
+    for _ in 0..u64::MAX {
+        let filled = stream::fill(from, question);
         if filled.count < SIZE {
             return;
         }
-        if !answer(question) {
-            os::fail(b"probe: standard output");
+        if !answer(to, question) {
+            stream::tell(err, "probe: standard output", to.failure);
             return;
         }
-        turns -= 1;
     }
 }
 
-fn main() {
+fn main(rt: HostRuntime) {
     let mut question = [0u8; 384];
-    run(&mut question);
+    let mut from = Input::new(rt.stdin());
+    let mut to = Output::new(rt.stdout());
+    run(&rt.stderr(), &mut from, &mut to, &mut question);
 }
