@@ -4,9 +4,9 @@
 ghost use Rattle.std.specs.Prelude.{◌≡◌, ◌≤◌, length};
 
 use faults::Fault;
-use libc::STDERR_FILENO;
 use notation::Text;
-use stream::Place;
+use std::io::{Read, Write};
+use stream::{Input, Place};
 
 // A text that is read: the bytes of the buffer that are not taken, how many bytes its line has and whether there is one, whether the input has ended, and
 // whether no read failed.
@@ -27,8 +27,8 @@ fn start_in(buf: &[u8], count: usize) -> usize
 }
 
 // Reads the first part of a text.
-pub fn open(buf: &mut [u8]) -> Lines {
-    let filled = stream::fill(buf);
+pub fn open<R: Read>(from: &mut Input<R>, buf: &mut [u8]) -> Lines {
+    let filled = stream::fill(from, buf);
     let count = filled.count;
     Lines {
         place: Place {
@@ -43,10 +43,10 @@ pub fn open(buf: &mut [u8]) -> Lines {
 }
 
 // The next part of the text.
-fn read_on(t: Lines, buf: &mut [u8]) -> Lines
+fn read_on<R: Read>(from: &mut Input<R>, t: Lines, buf: &mut [u8]) -> Lines
     ensures { result.len ≡ t.len }
 {
-    let filled = stream::fill(buf);
+    let filled = stream::fill(from, buf);
     let count = filled.count;
     Lines {
         place: Place { at: 0, end: count },
@@ -71,14 +71,13 @@ fn with_line(t: Lines, found: bool) -> Lines
 }
 
 // The next line, without its newline, stands at the start of `line`; the last one may lack its newline. Of a longer line than `line` has room for its start stands there.
-// A proved loop has to end, so it counts its turns down from a number that no text uses up.
-pub fn next_line(t: Lines, buf: &mut [u8], line: &mut [u8]) -> Lines
+// A proved loop has to end, so it has as many turns as no text uses up.
+pub fn next_line<R: Read>(from: &mut Input<R>, t: Lines, buf: &mut [u8], line: &mut [u8]) -> Lines
     ensures { result.len ≤ length line.new }
 {
     let mut s = t;
     s.len = 0;
-    let mut turns = u64::MAX;
-    while 0 < turns {
+    for _ in 0..u64::MAX {
         if !s.whole {
             return with_line(s, false);
         }
@@ -93,14 +92,21 @@ pub fn next_line(t: Lines, buf: &mut [u8], line: &mut [u8]) -> Lines
         if s.ended {
             return with_line(s, 0 < s.len);
         }
-        s = read_on(s, buf);
-        turns -= 1;
+        s = read_on(from, s, buf);
     }
     with_line(s, false)
 }
 
 // A fault with its cause, put into a buffer and written.
-fn put_cause(sort: Text, n: u8, number: u64, fault: Fault, line: &[u8], text: &mut [u8])
+fn put_cause<W: Write>(
+    err: &mut W,
+    sort: Text,
+    n: u8,
+    number: u64,
+    fault: Fault,
+    line: &[u8],
+    text: &mut [u8],
+)
     requires { length text.old ≡ 512 }
 {
     let b = causes::blame(sort, n, line, fault);
@@ -108,11 +114,11 @@ fn put_cause(sort: Text, n: u8, number: u64, fault: Fault, line: &[u8], text: &m
     let from = b.from;
     let to = b.to;
     let end = faults::put_fault(text, 0, number, fault, cause, &line[from..to]);
-    io::write_all(STDERR_FILENO, &text[..end]);
+    let _ = err.write_all(&text[..end]);
 }
 
-// What is wrong in a line with that number, with its cause, on standard error.
-pub fn report(sort: Text, n: u8, number: u64, fault: Fault, line: &[u8]) {
+// What is wrong in a line with that number, with its cause, written where errors are told. Where they cannot be told nothing is left to do.
+pub fn report<W: Write>(err: &mut W, sort: Text, n: u8, number: u64, fault: Fault, line: &[u8]) {
     let mut text = [0u8; 512];
-    put_cause(sort, n, number, fault, line, &mut text);
+    put_cause(err, sort, n, number, fault, line, &mut text);
 }
