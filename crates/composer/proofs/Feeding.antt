@@ -104,17 +104,17 @@ module _ (i n : ℕ) (l : List Action) (bytes : List ℕ) (c : Composer) (a : Af
       }) (omega arith) in
       record { stands = w.stands; idle = w.left; line = w.line; sized = a.sized; none = λ e. absurd (let z : true ≡ false = sym e ∙ some in let y : ◌≡◌ {A = ℕ} 0 1 = cc in omega arith) }
 
-  nodes_line_lem : (m : ℕ) → Goes (suc i) bytes (line_taken next (L.Nodes m)) (line_on n l (L.Nodes m))
+  nodes_line_goes : (m : ℕ) → Goes (suc i) bytes (line_taken next (L.Nodes m)) (line_on n l (L.Nodes m))
   unfolding line_taken nodes_taken
-  nodes_line_lem m = rw (ap (λ (x : ℕ). nodes_stage x m) a.stands.at.nodes) (go (nodes_stage n m) (λ e. nodes_go m (sized_nodes n m e).0 (sized_nodes n m e).1))
+  nodes_line_goes m = rw (ap (λ (x : ℕ). nodes_stage x m) a.stands.at.nodes) (go (nodes_stage n m) (λ e. nodes_go m (sized_nodes n m e).0 (sized_nodes n m e).1))
     where
       go : (s : Stage) → (s ≡ Going → Goes (suc i) bytes (for_nodes next m) (on m l)) → Goes (suc i) bytes (nodes_as next m s) (nodes_on m l s)
       go Going f = f refl
       go (Stopped f) g = (refl, next_line)
 
-  action_line_lem : (x : Action) (k : ℕ) → Fitting (L.Acts x k) → Goes (suc i) bytes (line_taken next (L.Acts x k)) (line_on n l (L.Acts x k))
+  action_line_goes : (x : Action) (k : ℕ) → Fitting (L.Acts x k) → Goes (suc i) bytes (line_taken next (L.Acts x k)) (line_on n l (L.Acts x k))
   unfolding line_taken action_taken
-  action_line_lem x k fits = rw (ap (λ (m : ℕ). eqb m 0) a.stands.at.nodes, ap (λ (m : ℕ). read m x) a.stands.at.nodes) (go (eqb n 0) (read n x) refl refl)
+  action_line_goes x k fits = rw (ap (λ (m : ℕ). eqb m 0) a.stands.at.nodes, ap (λ (m : ℕ). read m x) a.stands.at.nodes) (go (eqb n 0) (read n x) refl refl)
     where
       go : (b : Bool) (d : Decoded) → eqb n 0 ≡ b → read n x ≡ d
           → Goes (suc i) bytes
@@ -127,8 +127,8 @@ module _ (i n : ℕ) (l : List Action) (bytes : List ℕ) (c : Composer) (a : Af
   line_goes : (x : Line) → Fitting x → Goes (suc i) bytes (line_taken next x) (line_on n l x)
   unfolding line_taken
   line_goes L.Blank fits = blank_goes
-  line_goes (L.Nodes m) fits = nodes_line_lem m
-  line_goes (L.Acts x k) fits = action_line_lem x k fits
+  line_goes (L.Nodes m) fits = nodes_line_goes m
+  line_goes (L.Acts x k) fits = action_line_goes x k fits
   line_goes (L.Actions k) fits = (refl, next_line)
   line_goes (L.User k u) fits = (refl, next_line)
   line_goes (L.Finds q d) fits = (refl, next_line)

@@ -63,10 +63,10 @@ same_block s at =
     record { block = s.block; full = s.full; under = s.under; parts = s.parts; size = s.size; few = s.few; at = at; accepted = s.accepted; wrote = s.wrote }
 
 -- the file of l: what is written, and the block under way
-pub file_of_lem : {n : ℕ} {l : List Action} {bytes : List ℕ} {c : Composer} (s : Stands n l bytes c)
+pub file_stands : {n : ℕ} {l : List Action} {bytes : List ℕ} {c : Composer} (s : Stands n l bytes c)
     → file_of n l ≡ bytes ++ file_from (blocks_for (length s.under)) s.block n s.under
 unfolding file_of
-file_of_lem {n} {l} s =
+file_stands {n} {l} s =
     let sizes = length-append s.full s.under in
     let size = s.size in
     let few = s.few in

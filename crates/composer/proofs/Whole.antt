@@ -30,7 +30,7 @@ use Rattle.composer.specs.declared.Wrote.{Wrote}
 use Rattle.composer.specs.Composer.{stopped, with_block, records_in, used_by, quiet, flush_of, held_after, feed_of, finish_of, finish_held}
 use Rattle.composer.specs.Composed.{begin, put_bytes, settled, composed_from, composed, ends_from, ends, times_said, actions_in}
 use Rattle.composer.proofs.Blocks.{At}
-use Rattle.composer.proofs.Standing.{takes, block_taken, file_of_lem, under_accepted, parts_length}
+use Rattle.composer.proofs.Standing.{takes, block_taken, file_stands, under_accepted, parts_length}
 use Rattle.notation.specs.Reading.{line_shown, nodes_stage}
 use Rattle.notation.proofs.Readers.{shown_small}
 use Rattle.composer.proofs.Feeding.{After, Goes, feed_goes, still}
@@ -96,22 +96,22 @@ module _ (n i : ℕ) (l : List Action) (c : Composer) (at : At n i l c) (idle : 
 stage_of : {w : Wrote} {c : Composer} {b : Bool} → w ≡ record { composer = c; written = b } → w.composer.stage ≡ c.stage
 stage_of e = ap (λ (x : Wrote). x.composer.stage) e
 
-line_of_lem : {w : Wrote} {c : Composer} {b : Bool} → w ≡ record { composer = c; written = b } → w.composer.line ≡ c.line
-line_of_lem e = ap (λ (x : Wrote). x.composer.line) e
+line_is : {w : Wrote} {c : Composer} {b : Bool} → w ≡ record { composer = c; written = b } → w.composer.line ≡ c.line
+line_is e = ap (λ (x : Wrote). x.composer.line) e
 
 module _ (i n : ℕ) (l : List Action) (bytes : List ℕ) (c : Composer) (a : After i n l bytes c) (few : length l ≤ 31 * bound 4) where
   end_missing : eqb n 0 ≡ true → Outcome bytes [] c (wrong i F.NodesMissing)
   end_missing h =
       let s = a.stands in
       let e = finish_missing n s.block s.under c s.at a.idle h in
-      (stage_of e, line_of_lem e ∙ a.line)
+      (stage_of e, line_is e ∙ a.line)
 
   end_empty : eqb n 0 ≡ false → length l ≡ 0 → Outcome bytes [] c (wrong i F.NoAction)
   end_empty h none =
       let s = a.stands in
       let sizes = parts_length a.stands in
       let e = finish_empty n s.block s.under c s.at a.idle h (omega arith) (omega arith) in
-      (stage_of e, line_of_lem e ∙ a.line)
+      (stage_of e, line_is e ∙ a.line)
 
   end_full : eqb n 0 ≡ false → 1 ≤ length l → length a.stands.under ≡ 0 → Outcome bytes [] c (run n l)
   end_full h some none =
@@ -119,7 +119,7 @@ module _ (i n : ℕ) (l : List Action) (bytes : List ℕ) (c : Composer) (a : Af
       let sizes = parts_length a.stands in
       let later : 0 < a.stands.block = omega arith in
       let blocks : blocks_for (length a.stands.under) ≡ 0 = omega arith in
-      let file : file_of n l ≡ bytes ++ [] = rw blocks at (file_of_lem a.stands) in (
+      let file : file_of n l ≡ bytes ++ [] = rw blocks at (file_stands a.stands) in (
         takes n l (a.sized h) s.accepted some few,
         ap (λ (x : List ℕ). bytes ++ x) (held_full n s.block s.under c s.at a.idle h none later) ∙ sym file,
         stage_of (finish_full n s.block s.under c s.at a.idle h none later) ∙ s.at.going,
@@ -132,7 +132,7 @@ module _ (i n : ℕ) (l : List Action) (bytes : List ℕ) (c : Composer) (a : Af
       let small = s.few in
       let fits : a.stands.block < bound 4 = omega arith in
       let taken = block_taken n s.under (a.sized h) (under_accepted s) under (omega arith) in
-      let file : file_of n l ≡ bytes ++ block_of s.block n s.under = rw (one_block n s.block s.under under (omega arith)) at (file_of_lem a.stands) in (
+      let file : file_of n l ≡ bytes ++ block_of s.block n s.under = rw (one_block n s.block s.under under (omega arith)) at (file_stands a.stands) in (
         takes n l (a.sized h) s.accepted (omega arith) few,
         ap (λ (x : List ℕ). bytes ++ x) (held_under n s.block s.under c s.at a.idle h under small fits taken) ∙ sym file,
         stage_of (finish_under n s.block s.under c s.at a.idle h under small fits taken) ∙ s.at.going,

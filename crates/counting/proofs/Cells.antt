@@ -85,12 +85,12 @@ all_taken row after t =
     (λ q l. let h : q < 25 = rw t.size at l in t.each q h ∙ by_modes (λ p c. cond (eqb (entry p c).place q) (get_or row p 0) 0) 25 ∙ sym (row_at (next (λ p. get_or row p 0)) q h))
 
 -- no count is more than all that the modes have, 14 times
-total-times : (f : ℕ → ℕ) (n : ℕ) → total (λ p. total (λ c. f p) 14) n ≡ 14 * total f n
-total-times f zero = refl
-total-times f (suc n) = omega (arith, total-times f n)
+total_times : (f : ℕ → ℕ) (n : ℕ) → total (λ p. total (λ c. f p) 14) n ≡ 14 * total f n
+total_times f zero = refl
+total_times f (suc n) = omega (arith, total_times f n)
 
 all_fit : (f : ℕ → ℕ) (n i x : ℕ) → i < 14 * n → x ≤ total (λ j. f (j / 14)) i → x + f (i / 14) ≤ 14 * total f n
-all_fit f n i x h l = omega (arith, total_first (λ j. f (j / 14)) (suc i) (14 * n) h, by_modes (λ p c. f p) n, total-times f n)
+all_fit f n i x h l = omega (arith, total_first (λ j. f (j / 14)) (suc i) (14 * n) h, by_modes (λ p c. f p) n, total_times f n)
 
 pub sum_fits : (row after : List ℕ) (i : ℕ) → Taken row after i → i < 350 → get_or after (place_at i) 0 + get_or row (i / 14) 0 ≤ 14 * sum_of row
 unfolding sum_of

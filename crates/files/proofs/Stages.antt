@@ -55,29 +55,29 @@ abbrev Sized : BlockHead → Type 0
 Sized (Holds number count n) = is_size n ≡ true
 Sized (Refused k) = Unit {0}
 
-not-not : (b : Bool) → not b ≡ false → b ≡ true
-not-not true e = refl
-not-not false e = sym e
+not_not : (b : Bool) → not b ≡ false → b ≡ true
+not_not true e = refl
+not_not false e = sym e
 
 sized : (b : List ℕ) → Sized (head_of b)
 unfolding head_of
 sized b =
     pick_by Sized (not (eqb (length b) 512)) _ _ (λ e. tt) (λ e.
     pick_by Sized (not (eqb (check_in b) (check_of b))) _ _ (λ e. tt) (λ e.
-    pick_by Sized (not (is_size (n_in b))) _ _ (λ e. tt) (λ e. not-not _ e)))
+    pick_by Sized (not (is_size (n_in b))) _ _ (λ e. tt) (λ e. not_not _ e)))
 
 passed_by : (p : Before) (b : List ℕ) (h : BlockHead) → Sized h → Passed p (looked_at p b h)
 passed_by p b (Refused k) z = tt
 passed_by p b (Holds number count n) z =
     pick_by (Passed p) (not (follows p number n)) _ _ (λ e. tt) (λ e.
-    pick_by (Passed p) (not (count_fits b)) _ _ (λ f. tt) (λ f. (not-not _ e, z)))
+    pick_by (Passed p) (not (count_fits b)) _ _ (λ f. tt) (λ f. (not_not _ e, z)))
 
 pub passed : (p : Before) (b : List ℕ) → Passed p (looked_at p b (head_of b))
 passed p b = passed_by p b (head_of b) (sized b)
 
 -- what 10 asks of a block after another
 pub record Next (i c m number n : ℕ) : Type 0 where
-  pub is_next_lem : number ≡ suc i
+  pub next_number : number ≡ suc i
   pub same_n : n ≡ m
   pub was_full : c ≡ 31
 
@@ -86,7 +86,7 @@ next i c m number n f =
     let rest = and-true (eqb number (suc i)) _ (and-true (ltb (suc i) 4294967296) _ f).1 in
     let last = and-true (eqb (suc i) 0 || eqb n m) (eqb c 31) rest.1 in
     record {
-      is_next_lem = eqb-true number (suc i) rest.0;
+      next_number = eqb-true number (suc i) rest.0;
       same_n = eqb-true n m (or-true (eqb (suc i) 0) _ last.0 (eqb-suc-zero i));
       was_full = eqb-true c 31 last.1;
     }
@@ -104,7 +104,7 @@ counted Unopened m number count n b k f =
 counted (After i c) m number count n b k f =
     let e = next i c m number n f in
     let long = count_actions count b in
-    record { the_next = e.is_next_lem; in_all = omega arith }
+    record { the_next = e.next_number; in_all = omega arith }
 counted Ended m number count n b k f = never (sym k)
 
 -- where block i of a file for n nodes stands

@@ -19,7 +19,7 @@ use Rattle.composer.specs.Composed.{composed}
 use Rattle.composer.proofs.Whole.{composes}
 use Rattle.walk.specs.Walk.{walking}
 use Rattle.walk.specs.Feeding.{fed_text}
-use Rattle.walk.proofs.Nodes.{whole as walk-whole}
+use Rattle.walk.proofs.Nodes.{whole as walk_whole}
 use Rattle.walk.proofs.Files.{file_walked}
 use Rattle.walk.specs.Reading.{started}
 use Rattle.listing.specs.Listed.{naming, listed}
@@ -27,12 +27,12 @@ use Rattle.listing.proofs.Turns.{naming_n}
 
 -- the pieces of any file, fed one after the other, and then the file's end, give exactly the text of the file
 pub whole : (bytes : List ℕ) → fed_text naming (pieces bytes) started ≡ listed bytes
-whole = walk-whole naming_n
+whole = walk_whole naming_n
 
 -- actions that the writer takes for n nodes are accepted one by one
-accepted_by_lem : (n : ℕ) (l : List Action) → AllFit l → first_refusal n l ≡ N.accepted → AllAccepted n l
-accepted_by_lem n [] fits e = tt
-accepted_by_lem n (a ∷ l) fits e = go (read n a) refl (accepted_by_lem n l fits.1) e
+one_by_one : (n : ℕ) (l : List Action) → AllFit l → first_refusal n l ≡ N.accepted → AllAccepted n l
+one_by_one n [] fits e = tt
+one_by_one n (a ∷ l) fits e = go (read n a) refl (one_by_one n l fits.1) e
   where
     go : (d : Decoded) → read n a ≡ d → (first_refusal n l ≡ N.accepted → AllAccepted n l) → refused_or d (first_refusal n l) ≡ N.accepted → AllAccepted n (a ∷ l)
     go (D.Refused k) r rest h = absurd (never_zero n a (rw h at r))
@@ -47,7 +47,7 @@ lines_are n i (a ∷ l) g = rw (g.0.reads, lines_are n (suc i) l g.1)
 pub file_listed : (n : ℕ) (l : List Action) (bytes : List ℕ) → Taken n l → IsFile n l bytes → listed bytes ≡ text_of n l
 unfolding text_of
 file_listed n l bytes t f =
-    file_walked naming (λ first number count n b. refl) n l bytes f ∙ rw (lines_are n 0 l (accepted_by_lem n l t.fits t.accepted))
+    file_walked naming (λ first number count n b. refl) n l bytes f ∙ rw (lines_are n 0 l (one_by_one n l t.fits t.accepted))
 
 pub listed_text : (n : ℕ) (l : List Action) → Taken n l → listed (file_of n l) ≡ text_of n l
 listed_text n l t = file_listed n l (file_of n l) t (one_file n l t).is_file
@@ -55,7 +55,7 @@ listed_text n l t = file_listed n l (file_of n l) t (one_file n l t).is_file
 -- and that text composes to the same bytes
 text_means : (n : ℕ) (l : List Action) → Taken n l → meaning_of (text_of n l) ≡ run n l
 text_means n [] t = absurd (omega (arith, t.some))
-text_means n (a ∷ l) t = text_back n a l t.nodes (accepted_by_lem n (a ∷ l) t.fits t.accepted)
+text_means n (a ∷ l) t = text_back n a l t.nodes (one_by_one n (a ∷ l) t.fits t.accepted)
 
 pub lists_back : (n : ℕ) (l : List Action) → Taken n l → composed (listed (file_of n l)) ≡ file_of n l
 lists_back n l t = rw (listed_text n l t) (composes (text_of n l) n l (text_means n l t) t.numbered).1

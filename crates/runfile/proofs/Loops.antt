@@ -19,8 +19,8 @@ use Rattle.runfile.specs.Write.{is_records}
 
 -- bytes looked at from place i up to place t
 module _ (s : List ℕ) (i t : ℕ) (fits : t ≤ length s) where
-  pub slice-end : t ≤ i → slice i t s ≡ []
-  slice-end h =
+  pub slice_end : t ≤ i → slice i t s ≡ []
+  slice_end h =
       let e : length (take t s) ≤ i = rw (length-take-le t s fits) h in
       drop_of_length-le (take t s) e
 

@@ -49,9 +49,9 @@ weigh_plus i (x ∷ a) (y ∷ b) h =
     omega (arith, add-mul x y (i + 1))
 
 -- totals of lists put together and of lists added
-total-append : (a b : List ℕ) → total (a ++ b) ≡ total a + total b
-total-append [] b = rw zero-add
-total-append (x ∷ a) b = let r = total-append a b in omega arith
+total_append : (a b : List ℕ) → total (a ++ b) ≡ total a + total b
+total_append [] b = rw zero-add
+total_append (x ∷ a) b = let r = total_append a b in omega arith
 
 pub total_plus : (a b : List ℕ) → length a ≡ length b → total (plus a b) ≡ total a + total b
 total_plus a b h =
@@ -100,7 +100,7 @@ pub row_more : (k : ℕ) (t u row l : List ℕ) → length t ≡ k → length u 
     → (total (plus t row) ≡ total (row ++ l)) × (k * total (plus u t) + weigh 0 (plus t row) ≡ weigh 0 (row ++ l))
 row_more k t u row l ht hu hr ts us =
     let a = total_plus t row (ht ∙ sym hr) in
-    let b = total-append row l in
+    let b = total_append row l in
     let c = weigh_plus 0 t row (ht ∙ sym hr) in
     let d = rw (hr, ← ts) at (weigh_row row l) in
     (omega arith, rw (total_plus u t (hu ∙ sym ht)) (omega (arith, mul-add k (total u) (total t))))
@@ -125,9 +125,9 @@ weigh_more i k l h =
     rw (drop_more l k h, e)
 
 -- what is left of the columns' sum from column c on: column c, and the rest
-pub column-more : (t u : List ℕ) (c : ℕ) → c < length t → c < length u
+pub column_more : (t u : List ℕ) (c : ℕ) → c < length t → c < length u
     → 16 * total (drop c u) + weigh c (drop c t) ≡ 16 * get_or u c 0 + get_or t c 0 * (c + 1) + (16 * total (drop (c + 1) u) + weigh (c + 1) (drop (c + 1) t))
-column-more t u c p q = rw (drop_more t c p, drop_more u c q) (omega arith)
+column_more t u c p q = rw (drop_more t c p, drop_more u c q) (omega arith)
 
 -- two lists added, of which the places from c on are still to be added: a turn, the end, and what is added is no more than the whole
 abbrev pub added : ℕ → List ℕ → List ℕ → List ℕ
@@ -144,4 +144,4 @@ pub added_end : (c : ℕ) (a b : List ℕ) → length a ≤ c → added c a b �
 added_end c a b h = rw (drop_of_length-le a h, take_all c a h, append-nil)
 
 pub added_small : (c : ℕ) (a b : List ℕ) → c < length a → c < length b → get_or a c 0 + get_or b c 0 ≤ total (added c a b)
-added_small c a b p q = rw (drop_more a c p, drop_more b c q, total-append) (omega arith)
+added_small c a b p q = rw (drop_more a c p, drop_more b c q, total_append) (omega arith)

@@ -58,9 +58,9 @@ module _ (number n : ℕ) (records : List ℕ) (whole : is_records (length recor
       let used : length (head ++ records) ≡ used_end (length records / 16) = simp length-append (omega (arith, long)) in
       rw (← append_assoc head records pad, drop_at (head ++ records) pad (used_end (length records / 16)) used) (zeros_zero (496 - length records))
 
-  count_in_lem : count_in (block_with number n records) ≡ length records / 16
+  count_written : count_in (block_with number n records) ≡ length records / 16
   unfolding block_with body_of
-  count_in_lem = refl
+  count_written = refl
 
   -- bytes 6 to 13, those past the last action, and those from byte 14 on
   unused : all_zero (slice 6 14 (block_with number n records)) ≡ true
@@ -77,28 +77,28 @@ module _ (number n : ℕ) (records : List ℕ) (whole : is_records (length recor
 
   counts : count_fits (block_with number n records) ≡ true
   unfolding count_fits
-  counts = simp (eq-eqb _ _ block_length, count_in_lem, and_left (is_count (length records / 16)) _ whole, unused, past_last)
+  counts = simp (eq-eqb _ _ block_length, count_written, and_left (is_count (length records / 16)) _ whole, unused, past_last)
 
   -- the sums of a written block are those of the action bytes that were given
   pub block_sums : sums_of (block_with number n records) ≡ sums_for (length records / 16) records
   unfolding sums_of
   block_sums =
       let k : ℕ = length records / 16 in
-      rw (counts, count_in_lem, after_head, sums_append k records (zeros (496 - length records) ++ little 2 (check_sum (body_of number n records))) (omega (arith, long)))
+      rw (counts, count_written, after_head, sums_append k records (zeros (496 - length records) ++ little 2 (check_sum (body_of number n records))) (omega (arith, long)))
 
   module _ (numbers : number < bound 4) (size : is_size n ≡ true) where
     -- the fields of the head
-    number_in_lem : number_in (block_with number n records) ≡ number
+    number_written : number_in (block_with number n records) ≡ number
     unfolding block_with body_of
-    number_in_lem = value_little 4 number numbers
+    number_written = value_little 4 number numbers
 
-    n_in_lem : n_in (block_with number n records) ≡ n
+    n_written : n_in (block_with number n records) ≡ n
     unfolding block_with body_of
-    n_in_lem = refl
+    n_written = refl
 
     head : head_of (block_with number n records) ≡ Holds number (length records / 16) n
     unfolding head_of
-    head = simp (eq-eqb _ _ block_length, eq-eqb _ _ block_check, n_in_lem, size, number_in_lem, count_in_lem)
+    head = simp (eq-eqb _ _ block_length, eq-eqb _ _ block_check, n_written, size, number_written, count_written)
 
     pub reads_back : read_block (block_with number n records) ≡ Holds number (length records / 16) n
     unfolding read_block

@@ -30,14 +30,14 @@ use Rattle.walk.specs.Walk.{walking, walked_from}
 use Rattle.walk.specs.Feeding.{fed_text}
 use Rattle.walk.specs.Reading.{started}
 use Rattle.walk.proofs.Files.{later, there, block_text}
-use Rattle.walk.proofs.Nodes.{does, whole as walk-whole}
+use Rattle.walk.proofs.Nodes.{does, whole as walk_whole}
 use Rattle.walk.proofs.Whole.{any_state}
 use Rattle.summing.specs.Summed.{tracing, summed, traces_from, list_summed}
 use Rattle.summing.proofs.Turns.{tracing_n}
 
 -- the pieces of any file, fed one after the other, and then the file's end, give exactly the text of the file
 pub whole : (bytes : List ℕ) → fed_text tracing (pieces bytes) started ≡ summed bytes
-whole = walk-whole tracing_n
+whole = walk_whole tracing_n
 
 -- actions that the writer takes print nothing
 silent : (n : ℕ) (l : List Action) (i : ℕ) (f : ℕ → ℕ → List ℕ) → first_refusal n l ≡ N.accepted → walking tracing l n i f ≡ f n (i + length l)

@@ -29,14 +29,14 @@ use Rattle.trials.proofs.Taking.{trial_on, part_fits, part_taken}
 
 -- bytes stored one after the other
 sets_on : (l : List ℕ) (i : ℕ) (u v : List ℕ) → sets (sets l i u) (i + length u) v ≡ sets l i (u ++ v)
-sets_on l i [] v = ap (λ j. sets l j v) (add-zero i)
+sets_on l i [] v = ap (λ j. sets l j v) (add_zero i)
   where
-    add-zero : (i : ℕ) → i + 0 ≡ i
-    add-zero i = omega arith
-sets_on l i (a ∷ u) v = ap (λ j. sets (sets (set l i a) (suc i) u) j v) (add-suc i (length u)) ∙ sets_on (set l i a) (suc i) u v
+    add_zero : (i : ℕ) → i + 0 ≡ i
+    add_zero i = omega arith
+sets_on l i (a ∷ u) v = ap (λ j. sets (sets (set l i a) (suc i) u) j v) (add_suc i (length u)) ∙ sets_on (set l i a) (suc i) u v
   where
-    add-suc : (i k : ℕ) → i + suc k ≡ suc i + k
-    add-suc i k = omega arith
+    add_suc : (i k : ℕ) → i + suc k ≡ suc i + k
+    add_suc i k = omega arith
 
 -- how many of the actions that are left go into a block: 1 to 31, and less than 31 only where no more are left
 pub record Counts (left count : ℕ) : Type 0 where
@@ -110,9 +110,9 @@ module _ (us : ℕ → User) (n actions : ℕ) where
         let long : length (trial us n done) ≡ done = (is_trial us n done).count in
         let few = counted.few in
         let full = c.all_full more in
-        let zero-add : 0 + number ≡ number = omega arith in
+        let zero_add : 0 + number ≡ number = omega arith in
         let all : take 31 (part us n done count) ≡ part us n done count = take_all 31 (part us n done count) (omega arith) in
-        rw (trial_on us n done count) (file_split number 1 0 n (trial us n done) (part us n done count) (omega arith) ∙ rw (zero-add, all, append-nil, ← records_are))
+        rw (trial_on us n done count) (file_split number 1 0 n (trial us n done) (part us n done count) (omega arith) ∙ rw (zero_add, all, append-nil, ← records_are))
 
     pub next_size : length (block_with number n bytes) ≡ 512
     next_size =

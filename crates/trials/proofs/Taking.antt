@@ -99,22 +99,22 @@ taken_more n (b ∷ l) x e g = go (read n b) e (λ f. taken_more n l x f g)
 -- 3. a longer trial is the shorter one and the part after it
 pub trial_on : (us : ℕ → User) (n from k : ℕ) → trial us n (from + k) ≡ trial us n from ++ part us n from k
 unfolding trial
-trial_on us n from zero = ap (trial us n) (add-zero from) ∙ sym (append-nil (trial us n from))
+trial_on us n from zero = ap (trial us n) (add_zero from) ∙ sym (append-nil (trial us n from))
   where
-    add-zero : (k : ℕ) → k + 0 ≡ k
-    add-zero k = omega arith
+    add_zero : (k : ℕ) → k + 0 ≡ k
+    add_zero k = omega arith
 trial_on us n from (suc k) =
-    ap (trial us n) (add-suc from k) ∙ ap (λ l. l ++ (chosen us n (from + k) ∷ [])) (trial_on us n from k) ∙ append_assoc (trial us n from) (part us n from k) (chosen us n (from + k) ∷ [])
+    ap (trial us n) (add_suc from k) ∙ ap (λ l. l ++ (chosen us n (from + k) ∷ [])) (trial_on us n from k) ∙ append_assoc (trial us n from) (part us n from k) (chosen us n (from + k) ∷ [])
   where
-    add-suc : (j k : ℕ) → j + suc k ≡ suc (j + k)
-    add-suc j k = omega arith
+    add_suc : (j k : ℕ) → j + suc k ≡ suc (j + k)
+    add_suc j k = omega arith
 
 trial_part : (us : ℕ → User) (n k : ℕ) → trial us n k ≡ part us n 0 k
 unfolding trial
-trial_part us n k = ap (trial us n) (zero-add k) ∙ trial_on us n 0 k
+trial_part us n k = ap (trial us n) (zero_add k) ∙ trial_on us n 0 k
   where
-    zero-add : (k : ℕ) → k ≡ 0 + k
-    zero-add k = omega arith
+    zero_add : (k : ℕ) → k ≡ 0 + k
+    zero_add k = omega arith
 
 -- 4. each action is open when chosen, so it is read; and its fields fit their bytes
 module _ (us : ℕ → User) (n : ℕ) (a : Allowed us n) where

@@ -31,9 +31,9 @@ by_head true g h number count n e = refl
 by_head false g (Holds i c m) number count n e = refl
 by_head false g (Refused k) number count n e = let z : ◌≡◌ {A = ℕ} 0 1 = cc in absurd (omega arith)
 
-found_text_lem : (g : Stage) (m : ℕ) (piece : List ℕ) (number count n : ℕ) → found_in g m piece ≡ Block number count n → found_text g m piece ≡ []
+no_text : (g : Stage) (m : ℕ) (piece : List ℕ) (number count n : ℕ) → found_in g m piece ≡ Block number count n → found_text g m piece ≡ []
 unfolding found_in found_text
-found_text_lem g m piece number count n e = by_head (is_ended g) g (look_of g m piece) number count n e
+no_text g m piece number count n e = by_head (is_ended g) g (look_of g m piece) number count n e
 
 module _ {S : Type 0} (w : Walker S) (p : Walking S) (piece start : List ℕ) where
   pub fed_nothing : {end : ℕ} {buf : List ℕ} → found_in p.stage (w.nodes p.state) piece ≡ Nothing
@@ -52,7 +52,7 @@ module _ {S : Type 0} (w : Walker S) (p : Walking S) (piece start : List ℕ) wh
       → Fed (feed_of w p piece) start end buf (record { state = state; stage = stage })
   unfolding feed_of
   fed_block number count n {before = before} is look heading text s g =
-      let none = rw (found_text_lem p.stage (w.nodes p.state) piece number count n is) at look in
+      let none = rw (no_text p.stage (w.nodes p.state) piece number count n is) at look in
       let same : before ≡ start = none.holds ∙ put_none start 0 in
       let t = from_zero (and_then (rw same at heading) text) in
       rw is (t.0, (t.1, rw (s, g)))

@@ -33,7 +33,7 @@ module _ {S : Type 0} (w : Walker S) where
   block_text n i l s bytes b p at st c f = let here = found n i l s bytes b p at in rw (here.head, here.actions)
 
 -- walks that print `nodes` and nothing else before actions
-module _ {S : Type 0} (w : Walker S) (nodes-alone : (first : Bool) (number count n : ℕ) (b : List ℕ) → w.heading first number count n b ≡ nodes_once first n) where
+module _ {S : Type 0} (w : Walker S) (nodes_alone : (first : Bool) (number count n : ℕ) (b : List ℕ) → w.heading first number count n b ≡ nodes_once first n) where
   -- the text of actions depends on what follows them by its values alone; that of two lists is that of one after the other
   same_later : (l : List Action) (s : S) (i : ℕ) (f g : S → ℕ → List ℕ) → ((t : S) (j : ℕ) → f t j ≡ g t j) → walking w l s i f ≡ walking w l s i g
   same_later [] s i f g e = e s i
@@ -50,13 +50,13 @@ module _ {S : Type 0} (w : Walker S) (nodes-alone : (first : Bool) (number count
       let size = (shown s i (length l) n b.accepted).size in
       rw (one_piece s size)
       (block_text w n i l s bytes b p at st c (walked_from w [])
-      ∙ rw nodes-alone (ap (λ (t : List ℕ). nodes_once (is_first p) n ++ t) (same_later l (opened w p n st) c _ _ (λ t j. rw (eqb-suc-zero p.blocks)))))
+      ∙ rw nodes_alone (ap (λ (t : List ℕ). nodes_once (is_first p) n ++ t) (same_later l (opened w p n st) c _ _ (λ t j. rw (eqb-suc-zero p.blocks)))))
   blocks_text {n} {i} bytes (next {l = l} {m} {s} {t} b full rest) p at st c =
       let size = (shown s i (length l) n b.accepted).size in
       let q = later p n l in
       rw (more_pieces s t size)
       (block_text w n i l s (bytes_first s t bytes) b p at st c (walked_from w (pieces t))
-      ∙ rw nodes-alone (ap (λ (t : List ℕ). nodes_once (is_first p) n ++ t)
+      ∙ rw nodes_alone (ap (λ (t : List ℕ). nodes_once (is_first p) n ++ t)
       (same_later l (opened w p n st) c (walked_from w (pieces t) q) (λ u j. walking w m u j (λ v k. w.done k)) (λ u j. blocks_text (bytes_second s t bytes) rest q (there p n i l at full) u j ∙ rw (eqb-suc-zero p.blocks))
       ∙ sym (one_after_other l m (opened w p n st) c (λ u j. w.done j)))))
 

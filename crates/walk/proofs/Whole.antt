@@ -88,7 +88,7 @@ module _ {S : Type 0} {Good : S → Type 0} {w v : Walker S} (does : Does Good w
 
   -- block 0 or not, in both; and the same state to begin with, which is good and has the block's n
   record Opens (g : Stage) (s : S) (n : ℕ) : Type 0 where
-    first-is : is_unopened g ≡ is_first (before g (v.nodes s))
+    first_is : is_unopened g ≡ is_first (before g (v.nodes s))
     opening_is : opening_of v g n s ≡ opened w (before g (v.nodes s)) n s
     opens_good : Good (opening_of v g n s)
     opens_nodes : v.nodes (opening_of v g n s) ≡ n
@@ -97,13 +97,13 @@ module _ {S : Type 0} {Good : S → Type 0} {w v : Walker S} (does : Does Good w
   opens Unopened s number n k good f z =
       let e = does.same_opening n z in
       record {
-        first-is = refl;
+        first_is = refl;
         opening_is = e;
         opens_good = rw e (does.opening_good n z);
         opens_nodes = rw e (does.opening_nodes n z);
       }
   opens (After i c) s number n k good f z =
-      record { first-is = rw (eqb-suc-zero i); opening_is = rw (eqb-suc-zero i); opens_good = good; opens_nodes = sym (next i c (v.nodes s) number n f).same_n }
+      record { first_is = rw (eqb-suc-zero i); opening_is = rw (eqb-suc-zero i); opens_good = good; opens_nodes = sym (next i c (v.nodes s) number n f).same_n }
   opens Ended s number n k good f z = never (sym k)
 
   -- a block and what follows it
@@ -132,7 +132,7 @@ module _ {S : Type 0} {Good : S → Type 0} {w v : Walker S} (does : Does Good w
         let heading = w.heading (is_unopened g) number count n b in
         rw (does.same_heading (is_unopened g) number count n b)
         (append_assoc heading p.text _
-        ∙ rw (← o.opening_is, ← o.first-is)
+        ∙ rw (← o.opening_is, ← o.first_is)
         (ap (λ (t : List ℕ). heading ++ t)
         (ap (λ (t : List ℕ). p.text ++ t) follow ∙ sym (played acts (opening_of v g n s) (accepted_by g) (walked_from w l later) o.opens_good))))
 

@@ -1,6 +1,6 @@
 use mathlib.Core.Path.{refl, sym, ◌∙◌}
 use borrow.Author.Tests.{eq-eqb, ne_eqb}
-use Rattle.runfile.proofs.Loops.{slice_more, slice-end}
+use Rattle.runfile.proofs.Loops.{slice_more, slice_end}
 use Rattle.runfile.proofs.all_zero.Goals as goal
 
 pub loop-i-init : goal.loop-i-init
@@ -13,4 +13,4 @@ pub loop-i-preserved : goal.loop-i-preserved
 loop-i-preserved c = c.loop-i.invariant ∙ rw (slice_more c.args.block.now c.loop-i.i c.args.to c.requires c.loop-i-test.true, eq-eqb _ _ c.if-block-i-ne0.false)
 
 pub returns : goal.returns
-returns c = sym (c.loop-i.invariant ∙ rw (slice-end c.args.block.now c.loop-i.i c.args.to c.requires c.loop-i-test.false))
+returns c = sym (c.loop-i.invariant ∙ rw (slice_end c.args.block.now c.loop-i.i c.args.to c.requires c.loop-i-test.false))

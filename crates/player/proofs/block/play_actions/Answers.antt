@@ -52,8 +52,8 @@ is_step c =
     let p = c.plan-plan.result in
     let i = c.aim-aimed.result.node in
     let planned = tried (heard_by c.table-table.result) b.n b.phase b.concatenated (ltb 0 c.loop-k.asked) i c.cell_of-c.result (mark b.won) (mark b.pending) (mark b.holder) in
-    let is-plan = ◌∙◌ {b = planned c.aim-aimed.result.decoded} c.plan-plan.ensures (ap planned c.aim-aimed.ensures.decoded_value) in
-    carries b (glance b.n b.phase c.read_action-a.result) i c.cell_of-c.result p c.loop-k.invariant.4 (ready_glance b.n b.phase (mark b.pending) c.read_action-a.result) c.aim-aimed.ensures.node_bound c.aim-aimed.ensures.node_value c.cell_of-c.ensures c.table-table.result c.table-table.ensures (ltb 0 c.loop-k.asked) (counted_asked b c.loop-k.asked c.loop-k.invariant.5) is-plan
+    let is_plan = ◌∙◌ {b = planned c.aim-aimed.result.decoded} c.plan-plan.ensures (ap planned c.aim-aimed.ensures.decoded_value) in
+    carries b (glance b.n b.phase c.read_action-a.result) i c.cell_of-c.result p c.loop-k.invariant.4 (ready_glance b.n b.phase (mark b.pending) c.read_action-a.result) c.aim-aimed.ensures.node_bound c.aim-aimed.ensures.node_value c.cell_of-c.ensures c.table-table.result c.table-table.ensures (ltb 0 c.loop-k.asked) (counted_asked b c.loop-k.asked c.loop-k.invariant.5) is_plan
     c.node_of.result c.clear.new.marks c.clear-in-loop-k.new.marks c.clears_won.result c.clears_misled.result c.concatenated_after-concatenated.result
     c.node_of.ensures c.clears_won.ensures c.clear.ensures.marks_after c.clears_misled.ensures c.clear-in-loop-k.ensures.marks_after c.concatenated_after-concatenated.ensures
     ∙ advances b c.read_action-a.result

@@ -79,10 +79,10 @@ loop-k-preserved c = let n = c.args.t.bus.n in
     let i = c.aim-aimed.result.node in
     let p = c.plan-plan.result in
     let planned = tried (heard_by c.table-table.result) n c.loop-k.phase c.loop-k.concatenated false i c.cell_of-c.result (mark c.loop-k.won) (mark c.loop-k.pending) (mark c.loop-k.holder) in
-    let is-plan = ◌∙◌ {b = planned c.aim-aimed.result.decoded} c.plan-plan.ensures (ap planned c.aim-aimed.ensures.decoded_value) in
+    let is_plan = ◌∙◌ {b = planned c.aim-aimed.result.decoded} c.plan-plan.ensures (ap planned c.aim-aimed.ensures.decoded_value) in
     let r : Played = record { number = p.number; report = p.report; bus = bus_of n p.phase (set c.loop-k.nodes i c.node_of.result) c.clear.new.marks (set c.loop-k.pending i p.cell.pending) (set c.loop-k.holder i p.cell.holder) c.clear-in-loop-k.new.marks c.concatenated_after-concatenated.result } in
     let is_step = carries b (glance n c.loop-k.phase c.choose-a.result) i c.cell_of-c.result p sized (ready_glance n c.loop-k.phase (mark c.loop-k.pending) c.choose-a.result) c.aim-aimed.ensures.node_bound c.aim-aimed.ensures.node_value c.cell_of-c.ensures c.table-table.result c.table-table.ensures false
-    (unasked_now us (c.args.done + c.loop-k.k) b c.loop-k.left c.loop-k.heard c.loop-k.filled c.loop-k.made c.loop-k.tally c.loop-k.full c.loop-k.stray c.requires.allowed stands marked) is-plan
+    (unasked_now us (c.args.done + c.loop-k.k) b c.loop-k.left c.loop-k.heard c.loop-k.filled c.loop-k.made c.loop-k.tally c.loop-k.full c.loop-k.stray c.requires.allowed stands marked) is_plan
     c.node_of.result c.clear.new.marks c.clear-in-loop-k.new.marks c.clears_won.result c.clears_misled.result c.concatenated_after-concatenated.result
     c.node_of.ensures c.clears_won.ensures c.clear.ensures.marks_after c.clears_misled.ensures c.clear-in-loop-k.ensures.marks_after c.concatenated_after-concatenated.ensures
     ∙ advances b c.choose-a.result in
