@@ -6,7 +6,8 @@ ghost use Rattle.std.specs.Prelude.{◌≡◌, ◌≤◌, length};
 use charts::Answer;
 use finder::Finder;
 use notation::{Stage, Text};
-use stream::Held;
+use std::io::{Read, Write};
+use stream::{Held, Input, Output};
 
 // The question, how many bytes the line has that was read last, and whether no read failed.
 #[derive(Clone, Copy)]
@@ -16,15 +17,14 @@ struct Reading {
     whole: bool,
 }
 
-// Reads the text, up to a fault. A proved loop has to end, so it counts its turns down from a number that no text uses up.
-fn read_text(buf: &mut [u8], line: &mut [u8]) -> Reading
+// Reads the text, up to a fault. A proved loop has to end, so it has as many turns as no text uses up.
+fn read_text<R: Read>(from: &mut Input<R>, buf: &mut [u8], line: &mut [u8]) -> Reading
     ensures { result.len ≤ length line.new }
 {
     let mut f = finder::start();
-    let mut lines = texts::open(buf);
-    let mut turns = u64::MAX;
-    while 0 < turns {
-        lines = texts::next_line(lines, buf, line);
+    let mut lines = texts::open(from, buf);
+    for _ in 0..u64::MAX {
+        lines = texts::next_line(from, lines, buf, line);
         let len = lines.len;
         if !lines.found {
             return Reading {
@@ -42,7 +42,6 @@ fn read_text(buf: &mut [u8], line: &mut [u8]) -> Reading
                 whole: true,
             };
         }
-        turns -= 1;
     }
     Reading {
         finder: f,
@@ -51,44 +50,53 @@ fn read_text(buf: &mut [u8], line: &mut [u8]) -> Reading
     }
 }
 
-fn write(x: Answer) {
+fn write<W: Write>(err: &impl Eprint, to: &mut Output<W>, x: Answer) {
     let mut text = [0u8; 384];
     let held = Held {
         used: answering::put_answer(&mut text, 0, x),
         whole: true,
     };
-    if !stream::flush(&text, held) {
-        os::fail(b"find: standard output");
+    if !stream::flush(to, &text, held) {
+        stream::tell(err, "find: standard output", to.failure);
     }
 }
 
 // Says what is wrong, or answers the question.
-fn answer(f: Finder, line: &[u8]) {
+fn answer<W: Write, E: Eprint + Write>(err: &mut E, to: &mut Output<W>, f: Finder, line: &[u8]) {
     let stage = f.stage;
     let bus = f.bus;
     match stage {
         Stage::Going => {
             let question = f.question;
-            write(routes::find(bus, question, f.depth));
+            write(&*err, to, routes::find(bus, question, f.depth));
         }
-        Stage::Stopped(fault) => texts::report(Text::Question, bus.n, f.line, fault, line),
+        Stage::Stopped(fault) => texts::report(err, Text::Question, bus.n, f.line, fault, line),
     }
 }
 
-fn run(buf: &mut [u8], line: &mut [u8]) {
-    let r = read_text(buf, line);
+fn run<R: Read, W: Write, E: Eprint + Write>(
+    err: &mut E,
+    from: &mut Input<R>,
+    to: &mut Output<W>,
+    buf: &mut [u8],
+    line: &mut [u8],
+) {
+    let r = read_text(from, buf, line);
     if !r.whole {
-        os::fail(b"find: standard input");
+        stream::tell(&*err, "find: standard input", from.failure);
         return;
     }
     let len = r.len;
     let f = r.finder;
-    answer(f, &line[..len]);
+    answer(err, to, f, &line[..len]);
 }
 
-fn main() {
-    let mut buf = io::large_buffer();
+fn main(rt: HostRuntime) {
+    let mut from = Input::new(rt.stdin());
+    let mut to = Output::new(rt.stdout());
+    let mut err = rt.stderr();
+    let mut buf = [0u8; 65536];
     // The longest line is 255 bytes; a byte more shows that a line is longer.
     let mut line = [0u8; 256];
-    run(&mut buf, &mut line);
+    run(&mut err, &mut from, &mut to, &mut buf, &mut line);
 }

@@ -4,10 +4,10 @@
 ghost use Rattle.std.specs.Prelude.{◌≡◌, ◌≤◌, length};
 
 use charts::Tally;
-use libc::STDERR_FILENO;
 use notation::{Stage, Text};
 use settings::Settings;
-use stream::Held;
+use std::io::{Read, Write};
+use stream::{Held, Input, Output};
 
 // The settings, how many bytes the line has that was read last, and whether no read failed.
 #[derive(Clone, Copy)]
@@ -17,15 +17,14 @@ struct Reading {
     whole: bool,
 }
 
-// Reads the text, up to a fault. A proved loop has to end, so it counts its turns down from a number that no text uses up.
-fn read_text(buf: &mut [u8], line: &mut [u8]) -> Reading
+// Reads the text, up to a fault. A proved loop has to end, so it has as many turns as no text uses up.
+fn read_text<R: Read>(from: &mut Input<R>, buf: &mut [u8], line: &mut [u8]) -> Reading
     ensures { result.len ≤ length line.new }
 {
     let mut s = settings::start();
-    let mut lines = texts::open(buf);
-    let mut turns = u64::MAX;
-    while 0 < turns {
-        lines = texts::next_line(lines, buf, line);
+    let mut lines = texts::open(from, buf);
+    for _ in 0..u64::MAX {
+        lines = texts::next_line(from, lines, buf, line);
         let len = lines.len;
         if !lines.found {
             return Reading {
@@ -43,7 +42,6 @@ fn read_text(buf: &mut [u8], line: &mut [u8]) -> Reading
                 whole: true,
             };
         }
-        turns -= 1;
     }
     Reading {
         settings: s,
@@ -53,54 +51,74 @@ fn read_text(buf: &mut [u8], line: &mut [u8]) -> Reading
 }
 
 // Writes the run file, and then the tally.
-fn write(file: &[u8], size: usize, tally: Tally) {
+fn write<W: Write, E: Eprint + Write>(
+    err: &mut E,
+    to: &mut Output<W>,
+    file: &[u8],
+    size: usize,
+    tally: Tally,
+) {
     let held = Held {
         used: size,
         whole: true,
     };
-    if !stream::flush(file, held) {
-        os::fail(b"trial: standard output");
+    if !stream::flush(to, file, held) {
+        stream::tell(&*err, "trial: standard output", to.failure);
         return;
     }
     let mut text = [0u8; 256];
     let end = tallying::put_tally(&mut text, 0, tally);
-    io::write_all(STDERR_FILENO, &text[..end]);
+    let _ = err.write_all(&text[..end]);
 }
 
 // Makes the trial by way of a buffer. The settings are not refused, since the lines that would be are faults of the text.
-fn make(s: Settings, file: &mut [u8; 1082880]) {
+fn make<W: Write, E: Eprint + Write>(
+    err: &mut E,
+    to: &mut Output<W>,
+    s: Settings,
+    file: &mut [u8; 1082880],
+) {
     let users = s.users;
     let tried = trials::attempt(s.n, users, s.actions, file);
     let tally = tried.tally;
-    write(file, tried.size, tally);
+    write(err, to, file, tried.size, tally);
 }
 
 // Says what is wrong, or makes the trial.
-fn answer(s: Settings, line: &[u8]) {
+fn answer<W: Write, E: Eprint + Write>(err: &mut E, to: &mut Output<W>, s: Settings, line: &[u8]) {
     let stage = s.stage;
     match stage {
         Stage::Going => {
             let mut file = [0u8; 1082880];
-            make(s, &mut file);
+            make(err, to, s, &mut file);
         }
-        Stage::Stopped(fault) => texts::report(Text::Settings, s.n, s.line, fault, line),
+        Stage::Stopped(fault) => texts::report(err, Text::Settings, s.n, s.line, fault, line),
     }
 }
 
-fn run(buf: &mut [u8], line: &mut [u8]) {
-    let r = read_text(buf, line);
+fn run<R: Read, W: Write, E: Eprint + Write>(
+    err: &mut E,
+    from: &mut Input<R>,
+    to: &mut Output<W>,
+    buf: &mut [u8],
+    line: &mut [u8],
+) {
+    let r = read_text(from, buf, line);
     if !r.whole {
-        os::fail(b"trial: standard input");
+        stream::tell(&*err, "trial: standard input", from.failure);
         return;
     }
     let len = r.len;
     let s = r.settings;
-    answer(s, &line[..len]);
+    answer(err, to, s, &line[..len]);
 }
 
-fn main() {
-    let mut buf = io::large_buffer();
+fn main(rt: HostRuntime) {
+    let mut from = Input::new(rt.stdin());
+    let mut to = Output::new(rt.stdout());
+    let mut err = rt.stderr();
+    let mut buf = [0u8; 65536];
     // The longest line is 255 bytes; a byte more shows that a line is longer.
     let mut line = [0u8; 256];
-    run(&mut buf, &mut line);
+    run(&mut err, &mut from, &mut to, &mut buf, &mut line);
 }
