@@ -1,2 +1,3 @@
+pub mod Copied
 pub mod Lines
 pub mod Sent
