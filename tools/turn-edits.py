@@ -7,7 +7,7 @@ In a scratch clone of COMMIT it puts, beside each file that an edit names, that 
 Then port.py and respell-names.py turn all of them alike, and a pair is written anew from the lines in which the turned file differs from the one before it.
 An `old:` must stand once in the file as it is here. Where it doesn't, or where lines were broken otherwise, nothing is written, and the edit is listed
 with its turned lines, to be written by hand. A SCRATCH that stands already is taken as turned. By hand after it: charts/miss_of_the_buffer.edit, whose `[ .. ]`
-wants its blanks, and whatever `rt must-fail` names as BAD.
+wants its blanks, and each edit that `rt must-fail` names as BAD, or as refused for a name alone.
 """
 import difflib
 import glob
