@@ -11,7 +11,7 @@ index_of byte bytes = position_or_len (λ x. x == byte) bytes
 
 -- the bytes from a place up to another
 abbrev pub slice : ℕ → ℕ → List ℕ → List ℕ
-slice at end bytes = take (end - at) (drop at bytes)
+slice at end bytes = drop at (take end bytes)
 
 -- the bytes before the first newline, or all where there is none
 unfoldable pub line_of : List ℕ → List ℕ

@@ -1,6 +1,6 @@
 use Rattle.std.proofs.Common.{◌≡◌, ◌≤◌, ◌+◌, ◌-◌, drop, arith, length-take}
 use Rattle.stream.specs.Lines.{index_of, slice, taken_of}
-use Rattle.stream.proofs.Lines.{text_at, long, met, unmet}
+use Rattle.stream.proofs.Lines.{part, text_at, long, met, unmet}
 use Rattle.stream.proofs.take_line.Goals as goal
 
 pub returns-then-stop-end-clause-value : goal.returns-then-stop-end-clause-value
@@ -9,7 +9,7 @@ returns-then-stop-end-clause-value c =
     let buf = c.args.buf.now in
     let at = c.at_most-at.result in
     let end = c.at_most-end.result in
-    let found : at + c.line_size.result ≡ at + index_of 10 (slice at end buf) = rw c.line_size.ensures.value in
+    let found : at + c.line_size.result ≡ at + index_of 10 (slice at end buf) = rw (c.line_size.ensures.value, part at end buf) in
     let within : at + c.line_size.result ≤ end = omega (arith, length-take (end - at) (drop at buf), c.line_size.ensures.upper_bound, c.at_most-at.ensures.upper_bound.0) in
     let text = text_at buf at end (at + c.line_size.result) found within c.at_most-end.ensures.upper_bound.0 in
     let size = long buf at end (at + c.line_size.result) found within c.at_most-end.ensures.upper_bound.0 in
@@ -21,7 +21,7 @@ returns-then-stop-end-clause-line_after c =
     let buf = c.args.buf.now in
     let at = c.at_most-at.result in
     let end = c.at_most-end.result in
-    let found : at + c.line_size.result ≡ at + index_of 10 (slice at end buf) = rw c.line_size.ensures.value in
+    let found : at + c.line_size.result ≡ at + index_of 10 (slice at end buf) = rw (c.line_size.ensures.value, part at end buf) in
     let within : at + c.line_size.result ≤ end = omega (arith, length-take (end - at) (drop at buf), c.line_size.ensures.upper_bound, c.at_most-at.ensures.upper_bound.0) in
     let text = text_at buf at end (at + c.line_size.result) found within c.at_most-end.ensures.upper_bound.0 in
     rw (← c.at_most-end.ensures.value, ← c.at_most-at.ensures.value, ← c.at_most.ensures.value, ← text) c.append-size.ensures.line_after
@@ -32,7 +32,7 @@ returns-clause-value c =
     let buf = c.args.buf.now in
     let at = c.at_most-at.result in
     let end = c.at_most-end.result in
-    let found : at + c.line_size.result ≡ at + index_of 10 (slice at end buf) = rw c.line_size.ensures.value in
+    let found : at + c.line_size.result ≡ at + index_of 10 (slice at end buf) = rw (c.line_size.ensures.value, part at end buf) in
     let within : at + c.line_size.result ≤ end = omega (arith, length-take (end - at) (drop at buf), c.line_size.ensures.upper_bound, c.at_most-at.ensures.upper_bound.0) in
     let text = text_at buf at end (at + c.line_size.result) found within c.at_most-end.ensures.upper_bound.0 in
     let size = long buf at end (at + c.line_size.result) found within c.at_most-end.ensures.upper_bound.0 in
@@ -44,7 +44,7 @@ returns-clause-line_after c =
     let buf = c.args.buf.now in
     let at = c.at_most-at.result in
     let end = c.at_most-end.result in
-    let found : at + c.line_size.result ≡ at + index_of 10 (slice at end buf) = rw c.line_size.ensures.value in
+    let found : at + c.line_size.result ≡ at + index_of 10 (slice at end buf) = rw (c.line_size.ensures.value, part at end buf) in
     let within : at + c.line_size.result ≤ end = omega (arith, length-take (end - at) (drop at buf), c.line_size.ensures.upper_bound, c.at_most-at.ensures.upper_bound.0) in
     let text = text_at buf at end (at + c.line_size.result) found within c.at_most-end.ensures.upper_bound.0 in
     rw (← c.at_most-end.ensures.value, ← c.at_most-at.ensures.value, ← c.at_most.ensures.value, ← text) c.append-size.ensures.line_after
