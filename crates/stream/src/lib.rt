@@ -113,7 +113,7 @@ fn copy_at(out: &mut [u8], at: usize, text: &[u8])
 }
 
 // Adds a text after the bytes held, or writes these first where it has no room.
-#[tactic(auto, unfolding(crate::specs::Collected::held_after, crate::specs::Collected::collected))]
+#[tactic(auto, using(crate::proofs::Sent::held_on, crate::proofs::Sent::put_on), unfolding(crate::specs::Collected::held_after, crate::specs::Collected::collected))]
 fn add<W: Write>(to: &mut Output<W>, out: &mut [u8], at: usize, text: &[u8]) -> Held
     requires { at ≤ length out.old }
     ensures used_in_bounds { result.used ≤ length out.new }
