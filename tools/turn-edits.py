@@ -6,8 +6,10 @@ usage: tools/turn-edits.py COMMIT [SCRATCH]            at the top of the reposit
 In a scratch clone of COMMIT it puts, beside each file that an edit names, that file with the edit's first pair applied, with its first two, and so on.
 Then port.py and respell-names.py turn all of them alike, and a pair is written anew from the lines in which the turned file differs from the one before it.
 An `old:` must stand once in the file as it is here. Where it doesn't, or where lines were broken otherwise, nothing is written, and the edit is listed
-with its turned lines, to be written by hand. A SCRATCH that stands already is taken as turned. By hand after it: charts/miss_of_the_buffer.edit, whose `[ .. ]`
-wants its blanks, and each edit that `rt must-fail` names as BAD, or as refused for a name alone.
+with its turned lines, to be written by hand. A SCRATCH that stands already is taken as turned.
+
+By hand after it: charts/miss_of_the_buffer (blanks inside `[ .. ]`), link/one_class_further (`suc` is not in scope there), and player/refused_action_printed,
+routes/one_short, runfile/refused_write_writes and turns/waits_for_all, whose conditions gave a goal another name.
 """
 import difflib
 import glob
