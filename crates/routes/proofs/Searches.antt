@@ -65,9 +65,9 @@ record Met (f : ℕ → Found) (j : ℕ) (x : Found) : Type 0 where
   at : Leads f x
   upto : at.place ≤ j
 
-first_met : (f : ℕ → Found) (m k j : ℕ) → k ≤ j → j < k + m → (f j).found ≡ true → Met f j (first_from f m k)
-first_met f zero k j h l e = absurd (omega (arith, h, l))
-first_met f (suc m) k j h l e = go (f k).found refl (λ h. first_met f m (suc k) j h (omega (arith, l)) e)
+first_meets : (f : ℕ → Found) (m k j : ℕ) → k ≤ j → j < k + m → (f j).found ≡ true → Met f j (first_from f m k)
+first_meets f zero k j h l e = absurd (omega (arith, h, l))
+first_meets f (suc m) k j h l e = go (f k).found refl (λ h. first_meets f m (suc k) j h (omega (arith, l)) e)
   where
     later : (f k).found ≡ false → (b : Bool) → eqb j k ≡ b → suc k ≤ j
     later q true z = never (sym (ap (λ i. (f i).found) (eqb-true j k z) ∙ q) ∙ e)
@@ -76,6 +76,10 @@ first_met f (suc m) k j h l e = go (f k).found refl (λ h. first_met f m (suc k)
     go : (b : Bool) → (f k).found ≡ b → (suc k ≤ j → Met f j (first_from f m (suc k))) → Met f j (cond b (f k) (first_from f m (suc k)))
     go true q z = record { at = record { place = k; leads = q; is = refl }; upto = h }
     go false q z = z (later q (eqb j k) refl)
+
+-- so one is found
+first_met : (f : ℕ → Found) (m k j : ℕ) → k ≤ j → j < k + m → (f j).found ≡ true → (first_from f m k).found ≡ true
+first_met f m k j h l e = let x = first_meets f m k j h l e in ap (λ y. y.found) x.at.is ∙ x.at.leads
 
 -- a list of d bus events that leads from a state, which has given the report r, to one that is asked for
 pub record Leading (s : State) (r : Report) (q : Question) (d : ℕ) (l : List Action) : Type 0 where
@@ -144,7 +148,7 @@ module _ (s : State) (q : Question) (a : Action) (l : List Action) (o : is_accep
 
   reached : Reaches (first_from f (choices s.n s.phase) 0) (a ∷ l)
   reached =
-      let z = first_met f (choices s.n s.phase) 0 x.place (omega arith) (omega (arith, x.below)) (ap (λ x. x.found) leads_on ∙ y.found) in
+      let z = first_meets f (choices s.n s.phase) 0 x.place (omega arith) (omega (arith, x.below)) (ap (λ x. x.found) leads_on ∙ y.found) in
       subst (λ v. Reaches v (a ∷ l)) (sym z.at.is) record {
         found = z.at.leads;
         not_after = by_test (eqb z.at.place x.place)
