@@ -4,7 +4,8 @@ use Rattle.std.proofs.lemmas.List.{length-take-le}
 use Rattle.std.proofs.Math.Seq.{take-nil}
 use native.Mathlib.Numerals.{unary_clauses}
 use Rattle.stream.specs.Collected.{held_of}
-use Rattle.stream.specs.Lines.{index_of, slice, line_of, has_newline}
+use Rattle.std.proofs.Math.Seq.{slice}
+use Rattle.stream.specs.Lines.{index_of, line_of, has_newline}
 
 -- the part of a buffer from `a` up to `e`, taken either way
 pub part : (a e : ℕ) (l : List ℕ) → drop a (take e l) ≡ take (e - a) (drop a l)

@@ -1,6 +1,7 @@
 -- A line in a buffer: the bytes up to the next newline.
-use Rattle.std.specs.Prelude.{Bool, cond, List, ℕ, ◌+◌, ◌-◌, ◌==◌, ltb, length, take, drop}
+use Rattle.std.specs.Prelude.{Bool, cond, List, ℕ, ◌+◌, ◌-◌, ◌==◌, ltb, length, take}
 use Rattle.std.specs.List.{position_or_len}
+use Rattle.std.proofs.Math.Seq.{slice}
 use Rattle.stream.specs.declared.Place.{Place}
 use Rattle.stream.specs.declared.Taken.{Taken}
 use Rattle.stream.specs.Collected.{held_of, first_of}
@@ -8,10 +9,6 @@ use Rattle.stream.specs.Collected.{held_of, first_of}
 -- where such a byte first stands, or how many bytes there are where it does not
 abbrev pub index_of : ℕ → List ℕ → ℕ
 index_of byte bytes = position_or_len (λ x. x == byte) bytes
-
--- the bytes from a place up to another
-abbrev pub slice : ℕ → ℕ → List ℕ → List ℕ
-slice at end bytes = drop at (take end bytes)
 
 -- the bytes before the first newline, or all where there is none
 unfoldable pub line_of : List ℕ → List ℕ

@@ -1,5 +1,6 @@
 use Rattle.std.proofs.Common.{◌≡◌, ◌≤◌, ◌+◌, ◌-◌, drop, arith, length-take}
-use Rattle.stream.specs.Lines.{index_of, slice, taken_of}
+use Rattle.std.proofs.Math.Seq.{slice}
+use Rattle.stream.specs.Lines.{index_of, taken_of}
 use Rattle.stream.proofs.Lines.{part, text_at, long, met, unmet}
 use Rattle.stream.proofs.take_line.Goals as goal
 
