@@ -1,4 +1,5 @@
 -- What an acknowledgement means: the notes in the book of a requester agree with what the node that answers it has been through, and so each `ack a` is honest (specs/Demand.antt, AllHonest).
+use Rattle.std.specs.Prelude.{None, Option, Some}
 use mathlib.Core.Path.{◌≡◌, refl, sym, ap, subst, ◌∙◌}
 use mathlib.Core.Logic.{◌≢◌, ◌⊎◌, inl, inr}
 use mathlib.Core.Bool.{Bool, true, false, cond, ◌&&◌, ◌||◌, not}
@@ -7,7 +8,6 @@ use Prim.Native.Nat.{ℕ, ◌<◌, ◌≤◌}
 use native.Mathlib.Omega.{arith}
 use lib.Dec.{T, eqb, ltb}
 use borrow.Author.Tests.{eqb-true, eqb-false, ltb-true, eq-eqb, ne_eqb, not-true}
-use Rattle.charts.specs.declared.Seen.TheVariants as Sn
 use Rattle.charts.specs.declared.Mode.{Mode}
 use Rattle.charts.specs.declared.Mode.TheVariants.{Rest, AckBody, AckEnd, Sending, Answering, Acking, Spurious, Asked}
 use Rattle.charts.specs.declared.Signal.{Signal}
@@ -24,8 +24,6 @@ use Rattle.charts.specs.declared.Marking.{Marking}
 use Rattle.charts.specs.declared.Marking.TheVariants as M
 use Rattle.charts.specs.declared.Move.{Move}
 use Rattle.charts.specs.declared.Move.TheVariants.{Request}
-use Rattle.charts.specs.declared.Buffer.{Buffer}
-use Rattle.charts.specs.declared.Buffer.TheVariants.{Empty, Full}
 use Rattle.charts.specs.Modes as P
 use Rattle.charts.specs.Modes.{place_of, name_at, is_told, is_owed}
 use Rattle.charts.specs.Signals as S
@@ -337,7 +335,7 @@ reports_ack j label m g a e = (q, go (class_of j g) (subst (λ (x : Mode). Acked
     missed : Acked j a label ≡ Miss j label → ack_in m ≡ a
     missed z = absurd (let y : ◌≡◌ {A = ℕ} W.acked W.miss = ap word_of z in omega arith)
 
-    go : (c : ℕ) → Acked j a label ≡ (answer j label (AckEnd (Sn.Ack (ack_in m))) c g).report → ack_in m ≡ a
+    go : (c : ℕ) → Acked j a label ≡ (answer j label (AckEnd (Some (ack_in m))) c g).report → ack_in m ≡ a
     go c =
         pick (λ (x : Heard). Acked j a label ≡ x.report → ack_in m ≡ a) (eqb c S.end) _ _ (λ z. cc)
         (pick (λ (x : Heard). Acked j a label ≡ x.report → ack_in m ≡ a) (eqb c S.prefix) _ _ (λ z. cc) (pick (λ (x : Heard). Acked j a label ≡ x.report → ack_in m ≡ a) (eqb c S.gap) _ _ missed missed))
@@ -492,9 +490,9 @@ waits_running : (b : Bool) (i : ℕ) (p : Packet) (x : Book) → x.held ≡ fals
 waits_running true i p x e = ap (λ h. (asks h p x).running) e
 waits_running false i p x e = refl
 
-wins_confirmed : (b : Bool) (i : ℕ) (x : Book) (f : Buffer) → x.waiting ≡ f → (reports b (Won i) x).confirmed ≡ x.confirmed
-wins_confirmed true i x Empty e = ap (λ f. (Demand.wins f x).confirmed) e
-wins_confirmed true i x (Full p) e = ap (λ f. (Demand.wins f x).confirmed) e
+wins_confirmed : (b : Bool) (i : ℕ) (x : Book) (f : Option Packet) → x.waiting ≡ f → (reports b (Won i) x).confirmed ≡ x.confirmed
+wins_confirmed true i x None e = ap (λ f. (Demand.wins f x).confirmed) e
+wins_confirmed true i x (Some p) e = ap (λ f. (Demand.wins f x).confirmed) e
 wins_confirmed false i x f e = refl
 
 module _ (s : State) (bk : ℕ → Book) (v : Heed s bk) (p : Packet) (ca : Carry p s) (kp : (k : ℕ) → Kept (s.cell k) (bk k)) (re : Reach s) (i : ℕ) (l : i < s.n) where
@@ -593,7 +591,7 @@ module _ (s : State) (bk : ℕ → Book) (v : Heed s bk) (p : Packet) (ca : Carr
   at_stage z = subst (λ ph. Stage s.concatenated ph s.n s.cell) z re.stage
 
   -- node i wins; it rests, and goes on resting
-  won : (q : Packet) → s.phase ≡ Idle → (s.cell i).buffer ≡ Full q → mem (place_at s i) resting ≡ true → Heed (moved s Busy i (Actions.wins q (s.cell i))) (λ k. reports (eqb k i) (Won i) (bk k))
+  won : (q : Packet) → s.phase ≡ Idle → (s.cell i).buffer ≡ Some q → mem (place_at s i) resting ≡ true → Heed (moved s Busy i (Actions.wins q (s.cell i))) (λ k. reports (eqb k i) (Won i) (bk k))
   won q z f e =
       begins _ _ _ q refl (resting_mute (s.cell i).mode e) (ap (λ b. (reports b (Won i) (bk i)).running) (eq-eqb i i refl) ∙ ap (λ f. (Demand.wins f (bk i)).running) ((kp i).waits ∙ f))
       (λ k o. ap (λ b. (reports b (Won i) (bk k)).running) (ne_eqb k i o)) (λ k kl o. mem-sub resting past refl (place_at s k) ((at_stage z).rests k kl)) tt (λ k. wins_confirmed (eqb k i) i (bk k) _ refl)

@@ -1,5 +1,8 @@
 -- Asking and deciding as two moves (specs/Asking.antt): Asked stays on every signal, kinds 4 to 10 are refused while a node is Asked, and kind 11 with at once kind 12 of the same node
 -- does what kind 2 does. And a loser of kind 2 is left as it was.
+use Rattle.std.specs.Prelude.{Err, None, Ok, Option, Some}
+use Rattle.charts.specs.declared.Refusal.TheVariants as Rf
+use Rattle.charts.specs.declared.Packet.{Packet}
 use mathlib.Core.Path.{◌≡◌, refl, sym, ap, subst, ◌∙◌, fun_ext}
 use mathlib.Core.Bool.{Bool, true, false, cond, beq}
 use Prim.Native.Nat.{ℕ, ◌<◌}
@@ -7,14 +10,11 @@ use lib.Dec.{eqb, ltb}
 use borrow.Author.Tests.{eqb-true, ltb-true, lt-ltb}
 use Rattle.charts.specs.declared.Mode.{Mode}
 use Rattle.charts.specs.declared.Report.TheVariants.{Silent}
-use Rattle.charts.specs.declared.Buffer.{Buffer}
-use Rattle.charts.specs.declared.Buffer.TheVariants.{Empty, Full}
 use Rattle.charts.specs.declared.Phase.{Phase}
 use Rattle.charts.specs.declared.Cell.{Cell}
 use Rattle.charts.specs.declared.Move.{Move}
 use Rattle.charts.specs.declared.Move.TheVariants.{Arbitrate, Ask, Decide}
 use Rattle.charts.specs.declared.Action.{Action}
-use Rattle.charts.specs.declared.Decoded.TheVariants.{Refused, Accepted}
 use Rattle.charts.specs.Numbers as N
 use Rattle.charts.specs.Modes as P
 use Rattle.charts.specs.Modes.{is_rest}
@@ -72,9 +72,9 @@ bars s e a h l = go (stepped s a)
     go (acts v k i f w) = never (rw (waits_kind a h l, e) at f)
 
 -- a valid state and a record that is read as a move
-plays : (s : State) (a : Action) (m : Move) → valid s ≡ true → read s.n a ≡ Accepted m → step s a ≡ play s m
+plays : (s : State) (a : Action) (m : Move) → valid s ≡ true → read s.n a ≡ Ok m → step s a ≡ play s m
 unfolding step look
-plays s a m v r = ap (λ b. step_with s (cond b (read s.n a) (Refused N.not_valid))) v ∙ ap (step_with s) r
+plays s a m v r = ap (λ b. step_with s (cond b (read s.n a) (Err Rf.NotValid))) v ∙ ap (step_with s) r
 
 module _ (s : State) (i : ℕ) where
   abbrev c : Cell
@@ -93,9 +93,9 @@ module _ (s : State) (i : ℕ) where
   unfolding play outcome arbitrate
   contends e = by_test (is_rest c.mode) (λ q. (q, go c.buffer (rw q at e))) (λ q. never (rw q at e))
     where
-      go : (b : Buffer) → is_accepted (carry_out s i (decided s.phase i c b)) ≡ true → is_empty b ≡ false
-      go Empty e = never e
-      go (Full p) e = refl
+      go : (b : Option Packet) → is_accepted (carry_out s i (decided s.phase i c b)) ≡ true → is_empty b ≡ false
+      go None e = never e
+      go (Some p) e = refl
 
   -- the state after kind 11
   abbrev asked : State
@@ -118,9 +118,9 @@ module _ (s : State) (i : ℕ) where
   same (does r p d x) e = λ t. record { number = N.accepted; report = r; state = remarked x (again p d t) }
 
   -- and what is decided there is decided as here: neither a winner's cell nor a loser's depends on the mode
-  alike : (b : Buffer) → decided s.phase i (asks c) b ≡ decided s.phase i c b
-  alike Empty = refl
-  alike (Full p) = refl
+  alike : (b : Option Packet) → decided s.phase i (asks c) b ≡ decided s.phase i c b
+  alike None = refl
+  alike (Some p) = refl
 
   decides : is_accepted (play s (Arbitrate i)) ≡ true → play asked (Decide i) ≡ play s (Arbitrate i)
   unfolding play outcome decide arbitrate

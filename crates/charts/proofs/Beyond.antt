@@ -1,4 +1,5 @@
 -- "Records and marks of nodes from n on are neither read nor changed" (number 12): `untouched` and `unread`.
+use Rattle.std.specs.Prelude.{Err, Ok}
 use mathlib.Core.Path.{◌≡◌, refl, ap, ap₂, subst, ◌∙◌}
 use mathlib.Core.Logic.{◌≢◌}
 use mathlib.Core.Bool.{Bool, false, cond, ◌&&◌, ◌||◌, not}
@@ -19,11 +20,11 @@ use Rattle.charts.specs.declared.Marking.TheVariants as M
 use Rattle.charts.specs.declared.Move.{Move}
 use Rattle.charts.specs.declared.Move.TheVariants.{Request, Arbitrate, Respond, Clock, Carry, Grant, GapNext, Reset, Ask, Decide}
 use Rattle.charts.specs.declared.Action.{Action}
-use Rattle.charts.specs.declared.Decoded.{Decoded}
-use Rattle.charts.specs.declared.Decoded.TheVariants.{Refused, Accepted}
+use Rattle.charts.specs.Records.{Decoded}
 use Rattle.charts.specs.Modes.{is_asked}
 use Rattle.charts.specs.Reception.{hears}
 use Rattle.charts.specs.Numbers as N
+use Rattle.charts.specs.Numbers.{number_of}
 use Rattle.charts.specs.Reception.{hears}
 use Rattle.charts.specs.Outputs.{output}
 use Rattle.charts.specs.Arrivals.{arrives}
@@ -189,8 +190,8 @@ other_cells s g h a =
     alike = record { same_n = refl; same_phase = refl; same_mark = refl; same_cells = h }
 
     go : Valid s → (d : Decoded) → Decodes s.n a d → Alike (step_with s d) (step_with (with_cells s g) d)
-    go v (Refused k) q = refuse_alike _ _ k alike
-    go v (Accepted m) (taken k) =
+    go v (Err k) q = refuse_alike _ _ (number_of k) alike
+    go v (Ok m) (taken k) =
         rw (← same_comes s g h v (move_of a) k, ← same_about s g h (move_of a)) (carry_out_alike s (with_cells s g) (about s (move_of a)) (comes_to s (move_of a)) alike)
 
 pub unread : (s t : State) (a : Action) → Agree s t → Alike (step s a) (step t a)

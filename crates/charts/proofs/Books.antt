@@ -1,6 +1,7 @@
 -- The books are kept (specs/Demand.antt): in every run the book of each node is right, what waits in it is in the node's buffer, its next request starts at once exactly while the node
 -- will hold or holds the bus, and a request of it runs exactly while the node is in Sending, AwaitAck, AckBody or AckEnd, where it is the packet that the node sends.
 -- Each node by itself: nothing is said of the bus or of another node.
+use Rattle.std.specs.Prelude.{None, Option, Some}
 use mathlib.Core.Path.{◌≡◌, refl, sym, ap, subst, ◌∙◌}
 use mathlib.Core.Logic.{◌⊎◌, inl, inr}
 use mathlib.Core.Bool.{Bool, true, false, cond, ◌&&◌, ◌||◌, not, beq}
@@ -9,8 +10,6 @@ use Prim.Native.Nat.{ℕ}
 use lib.Dec.{eqb}
 use borrow.Author.Tests.{eqb-true, not-true}
 use Rattle.charts.specs.declared.Head.{Head}
-use Rattle.charts.specs.declared.Seen.TheVariants as Sn
-use Rattle.charts.specs.declared.Datum.TheVariants as D
 use Rattle.charts.specs.declared.Mode.{Mode}
 use Rattle.charts.specs.declared.Mode.TheVariants.{Rest, AwaitAck, AckBody, AckEnd, Opened, Addressed, HeadOwn, HeadAll, BodyOwn, BodyAll, TailOwn, TailAll, Wait, Owed, Sending, Told, Answering, Acking, Holding, Spurious, Listening, Asked}
 use Rattle.charts.specs.declared.Reading.{Reading}
@@ -18,8 +17,6 @@ use Rattle.charts.specs.declared.Signal.{Signal}
 use Rattle.charts.specs.declared.Report.{Report}
 use Rattle.charts.specs.declared.Report.TheVariants.{Silent, Won, Lost, Sent, Acked, Miss, Drop, Good, Dcrc, Broad}
 use Rattle.charts.specs.declared.Packet.{Packet}
-use Rattle.charts.specs.declared.Buffer.{Buffer}
-use Rattle.charts.specs.declared.Buffer.TheVariants.{Empty, Full}
 use Rattle.charts.specs.declared.Phase.{Phase}
 use Rattle.charts.specs.declared.Cell.{Cell}
 use Rattle.charts.specs.declared.Heard.{Heard}
@@ -61,7 +58,7 @@ Runs o p none = o ≡ false
 Runs o p (run q l) = (o ≡ true) × (q ≡ p)
 
 -- the book of a node with this mode, buffer and packet being sent
-pub record Keeps (m : Mode) (f : Buffer) (p : Packet) (b : Book) : Type 0 where
+pub record Keeps (m : Mode) (f : Option Packet) (p : Packet) (b : Book) : Type 0 where
   pub right : b.wrong ≡ false
   pub waits : b.waiting ≡ f
   pub holds : b.held ≡ hold_of m
@@ -95,18 +92,18 @@ by j label m g = go m
     go Rest = arm (eqb c S.start) _ _ silent silent
     go AwaitAck = arm (eqb c S.prefix) _ _ silent (arm (eqb c S.start) _ _ silent (arm (eqb c S.gap) _ _ misses misses))
     go AckBody = arm (eqb c S.gap) _ _ misses (arm (is_line c) _ _ misses (arm (eqb c S.ack_good) _ _ silent silent))
-    go (AckEnd (Sn.Ack a)) = arm (eqb c S.end) _ _ acks (arm (eqb c S.prefix) _ _ acks (arm (eqb c S.gap) _ _ misses misses))
-    go (AckEnd Sn.Nothing) = arm (eqb c S.gap) _ _ misses misses
+    go (AckEnd (Some a)) = arm (eqb c S.end) _ _ acks (arm (eqb c S.prefix) _ _ acks (arm (eqb c S.gap) _ _ misses misses))
+    go (AckEnd None) = arm (eqb c S.gap) _ _ misses misses
     go Opened = arm (eqb c S.gap) _ _ silent (arm (is_line c) _ _ dropped silent)
     go Addressed = arm (eqb c S.dest_own) _ _ silent (arm (eqb c S.dest_all) _ _ silent (arm (eqb c S.dest_other) _ _ silent (arm (eqb c S.gap) _ _ silent dropped)))
     go HeadOwn = arm (eqb c S.header_good) _ _ silent dropped
     go HeadAll = arm (eqb c S.header_good) _ _ silent (arm (eqb c S.gap) _ _ silent dropped)
     go (BodyOwn h) = arm (eqb c S.data_good) _ _ silent (arm (eqb c S.data_bad) _ _ silent dropped)
     go (BodyAll h) = arm (eqb c S.data_good) _ _ silent (arm (eqb c S.data_bad) _ _ silent (arm (eqb c S.gap) _ _ silent dropped))
-    go (TailOwn h (D.Good d)) = arm (closes c) _ _ good dropped
-    go (TailOwn h D.Bad) = arm (closes c) _ _ dcrc dropped
-    go (TailAll h (D.Good d)) = arm (closes c) _ _ broad (arm (eqb c S.gap) _ _ silent dropped)
-    go (TailAll h D.Bad) = arm (closes c) _ _ dropped (arm (eqb c S.gap) _ _ silent dropped)
+    go (TailOwn h (Some d)) = arm (closes c) _ _ good dropped
+    go (TailOwn h None) = arm (closes c) _ _ dcrc dropped
+    go (TailAll h (Some d)) = arm (closes c) _ _ broad (arm (eqb c S.gap) _ _ silent dropped)
+    go (TailAll h None) = arm (closes c) _ _ dropped (arm (eqb c S.gap) _ _ silent dropped)
     go Wait = arm (eqb c S.gap) _ _ silent silent
     go Owed = silent
     go (Sending k) = silent
@@ -177,11 +174,11 @@ pub none_runs : (o : Bool) (p : Packet) (r : Run) → Runs o p r → o ≡ false
 none_runs o p none e q = refl
 none_runs o p (run u l) e q = clash o e.0 q
 
-pub noted : (x : Note) {m : Mode} {f : Buffer} {p : Packet} {b : Book} → Keeps m f p b → Keeps m f p (notes x b)
+pub noted : (x : Note) {m : Mode} {f : Option Packet} {p : Packet} {b : Book} → Keeps m f p b → Keeps m f p (notes x b)
 noted x {m} {f} {p} {b} v = record { right = v.right; waits = v.waits; holds = v.holds; runs = runs_note x _ p b.running v.runs; near = v.near }
 
 -- the node goes to another mode, and what matters of it stays
-stay : {m₀ m : Mode} {f : Buffer} {p : Packet} {b : Book} → hold_of m ≡ hold_of m₀ → ours (place_of m) ≡ ours (place_of m₀) →
+stay : {m₀ m : Mode} {f : Option Packet} {p : Packet} {b : Book} → hold_of m ≡ hold_of m₀ → ours (place_of m) ≡ ours (place_of m₀) →
     (eqb (place_of m) P.await_ack ≡ true → eqb p.to everybody ≡ false) → Keeps m₀ f p b → Keeps m f p b
 stay {m₀} {m} {f} {p} {b} h o n v =
     record { right = v.right; waits = v.waits; holds = v.holds ∙ sym h; runs = subst (λ o. Runs o p b.running) (sym o) v.runs; near = n }
@@ -197,12 +194,12 @@ resting_hold m e = go (mem_two P.rest P.asked (place_of m) e)
 pub resting_ours : (m : Mode) → mem (place_of m) resting ≡ true → ours (place_of m) ≡ false
 resting_ours m e = not-true _ (implied _ _ (law_mode (λ p. implies (mem p resting) (not (ours p))) tt m) e)
 
-rests_on : {m₀ m : Mode} {f : Buffer} {p : Packet} {b : Book} → mem (place_of m₀) resting ≡ true → mem (place_of m) resting ≡ true → Keeps m₀ f p b → Keeps m f p b
+rests_on : {m₀ m : Mode} {f : Option Packet} {p : Packet} {b : Book} → mem (place_of m₀) resting ≡ true → mem (place_of m) resting ≡ true → Keeps m₀ f p b → Keeps m f p b
 rests_on {m₀} {m} e u v =
     stay (resting_hold m u ∙ sym (resting_hold m₀ e)) (resting_ours m u ∙ sym (resting_ours m₀ e)) (λ z. clash _ (ap ours (eqb-true (place_of m) P.await_ack z)) (resting_ours m u)) v
 
 -- it reports a confirmation, and its request runs no longer
-ends : {m₀ m : Mode} {f : Buffer} {p : Packet} {b : Book} (r : Report) → hold_of m ≡ hold_of m₀ → ours (place_of m₀) ≡ true → ours (place_of m) ≡ false →
+ends : {m₀ m : Mode} {f : Option Packet} {p : Packet} {b : Book} (r : Report) → hold_of m ≡ hold_of m₀ → ours (place_of m₀) ≡ true → ours (place_of m) ≡ false →
     Keeps m₀ f p b → Keeps m f p (confirms r b.running b)
 ends {m₀} {m} {f} {p} {b} r h o u v = go b.running v.runs
   where
@@ -213,7 +210,7 @@ ends {m₀} {m} {f} {p} {b} r h o u v = go b.running v.runs
 -- what a holder puts out: it reports nothing or of itself, and its own book is kept
 record Put (i : ℕ) (p : Packet) (m₀ m : Mode) (r : Report) : Type 0 where
   reporter : Of i r
-  keeps : {f : Buffer} {b : Book} → Keeps m₀ f p b → Keeps m f p (reports true r b)
+  keeps : {f : Option Packet} {b : Book} → Keeps m₀ f p b → Keeps m f p (reports true r b)
 
 silently : {i : ℕ} {p : Packet} {m₀ m : Mode} → hold_of m ≡ hold_of m₀ → ours (place_of m) ≡ ours (place_of m₀) →
     (eqb (place_of m) P.await_ack ≡ true → eqb p.to everybody ≡ false) → Put i p m₀ m Silent
@@ -235,7 +232,7 @@ put (ack_end l) = silently refl refl (λ z. never z)
 put holds_on = silently refl refl (λ z. never z)
 
 -- a node that hears a signal keeps its book
-hear : {m : Mode} {f : Buffer} {p : Packet} {b : Book} (j label : ℕ) (g : Signal) → Keeps m f p b → Keeps (hears j label m g).mode f p (reports true (hears j label m g).report b)
+hear : {m : Mode} {f : Option Packet} {p : Packet} {b : Book} (j label : ℕ) (g : Signal) → Keeps m f p b → Keeps (hears j label m g).mode f p (reports true (hears j label m g).report b)
 hear {m} {f} {p} {b} j label g v = go (hears j label m g).report (by j label m g) (remains j label m g) (leaves j label m g)
   where
     same : ours (place_of (hears j label m g).mode) ≡ ours (place_of m) → Keeps (hears j label m g).mode f p b
@@ -255,13 +252,13 @@ hear {m} {f} {p} {b} j label g v = go (hears j label m g).report (by j label m g
     go r broad s l = noted _ (same (s refl))
 
 -- so does a node that gets a grant
-grant : {m : Mode} {f : Buffer} {p : Packet} {b : Book} → Keeps m f p b → Keeps (granted m) f p b
+grant : {m : Mode} {f : Option Packet} {p : Packet} {b : Book} → Keeps m f p b → Keeps (granted m) f p b
 grant {m} {f} {p} {b} v =
     pick_by (λ x. Keeps x f p b) (is_told m) _ _ (λ e. stay refl refl (λ z. never z) (subst (λ x. Keeps x f p b) (mode_is m P.told (eqb-true _ _ e)) v)) λ e.
     pick_by (λ x. Keeps x f p b) (is_owed m) _ _ (λ e. stay refl refl (λ z. never z) (subst (λ x. Keeps x f p b) (mode_is m P.owed (eqb-true _ _ e)) v)) λ e. v
 
 -- the event of another node leaves a book kept, whatever it is: at most it is noted
-aside_move : {m : Mode} {f : Buffer} {p : Packet} {b : Book} (x : Move) → Keeps m f p b → Keeps m f p (moves false x b)
+aside_move : {m : Mode} {f : Option Packet} {p : Packet} {b : Book} (x : Move) → Keeps m f p b → Keeps m f p (moves false x b)
 aside_move (Request i q) v = v
 aside_move (Arbitrate i) v = v
 aside_move {b = b} (Respond i a h) v = noted (gave i a) {b = holds_for false h b} (record { right = v.right; waits = v.waits; holds = v.holds; runs = v.runs; near = v.near })
@@ -273,7 +270,7 @@ aside_move Reset v = v
 aside_move (Ask i) v = v
 aside_move (Decide i) v = v
 
-aside_report : {m : Mode} {f : Buffer} {p : Packet} {b : Book} (r : Report) → Keeps m f p b → Keeps m f p (reports false r b)
+aside_report : {m : Mode} {f : Option Packet} {p : Packet} {b : Book} (r : Report) → Keeps m f p b → Keeps m f p (reports false r b)
 aside_report Silent v = v
 aside_report (Won i) v = v
 aside_report (Lost i) v = v
@@ -317,7 +314,7 @@ module _ (s : State) where
   own : {m : Move} {i : ℕ} {r : Report} {p : Phase} {c : Cell} {x : Marking} (b : Book) → Effect s m i (does r p c x) → Kept (s.cell i) b → Kept c (reports true r (moves true m b))
   own b (waits {i = i} {p = p} e f) v =
       let n : hold_of (s.cell i).mode ≡ false = ap hold_of (mode_is (s.cell i).mode P.rest e) in
-      subst (λ h. Keeps (s.cell i).mode (Full p) (s.cell i).sending (asks h p b)) (sym (v.holds ∙ n))
+      subst (λ h. Keeps (s.cell i).mode (Some p) (s.cell i).sending (asks h p b)) (sym (v.holds ∙ n))
       (record { right = neither _ _ v.right (ap (λ w. not (is_empty w)) (v.waits ∙ f)); waits = refl; holds = sym n; runs = v.runs; near = v.near })
   own b (replies {i = i} {p = p} e) v =
       subst (λ h. Keeps (Sending 0) (s.cell i).buffer p (asks h p b)) (sym (v.holds ∙ ap hold_of e))
@@ -325,8 +322,8 @@ module _ (s : State) where
   own b (claims {i = i} e f) v = rests_on {m₀ = (s.cell i).mode} (ap (λ p. mem p resting) e) refl v
   own b (wins {i = i} {p = p} c q f w) v =
       let e = contends_rests c in
-      subst (λ x. Keeps (Sending 0) Empty p (reports true (Won i) x)) (sym (contends_moves c true b))
-      (subst (λ u. Keeps (Sending 0) Empty p (Demand.wins u b)) (sym (v.waits ∙ f))
+      subst (λ x. Keeps (Sending 0) None p (reports true (Won i) x)) (sym (contends_moves c true b))
+      (subst (λ u. Keeps (Sending 0) None p (Demand.wins u b)) (sym (v.waits ∙ f))
       (record { right = neither _ _ v.right (ap is_run (none_runs _ _ b.running v.runs (resting_ours (s.cell i).mode e))); waits = refl; holds = v.holds ∙ resting_hold (s.cell i).mode e; runs = (refl, refl); near = λ z. never z }))
   own b (loses {i = i} c) v = subst (Keeps Rest (s.cell i).buffer (s.cell i).sending) (sym (contends_moves c true b)) (rests_on {m₀ = (s.cell i).mode} (contends_rests c) refl v)
   own b (gives {i = i} {a = a} {h = h} e u) v =

@@ -1,4 +1,5 @@
 -- Sanity, computed by the checker: the marked cases A to F and I of document 01, a reply and labels as a table, played by the charts, and a refusal of each number that a step, a trial and a question give.
+use Rattle.std.specs.Prelude.{None, Some}
 use mathlib.Core.Path.{◌≡◌, refl}
 use mathlib.Core.Bool.{true, false, cond, true≢false}
 use mathlib.Core.List.{List, [], ◌∷◌, ◌++◌, map}
@@ -6,14 +7,12 @@ use Prim.Native.Nat.{ℕ, zero, suc}
 use lib.Dec.{lit≤}
 use lib.ListN.{get_or, set, take, drop, replicate}
 use Rattle.charts.specs.declared.Head.{Head}
-use Rattle.charts.specs.declared.Datum.TheVariants as D
 use Rattle.charts.specs.declared.Mode.TheVariants.{BodyOwn, BodyAll, TailOwn, TailAll, Sending}
 use Rattle.charts.specs.declared.Reading.TheVariants as Rd
 use Rattle.charts.specs.declared.Signal.TheVariants.{Prefix, Header}
 use Rattle.charts.specs.declared.Report.{Report}
 use Rattle.charts.specs.declared.Report.TheVariants.{Silent, Won, Lost, Sent, Acked, Miss, Drop, Good, Dcrc, Broad}
 use Rattle.charts.specs.declared.Packet.{Packet}
-use Rattle.charts.specs.declared.Buffer.TheVariants.{Full}
 use Rattle.charts.specs.declared.Phase.{Phase}
 use Rattle.charts.specs.declared.Phase.TheVariants.{Idle, Busy, Delivering, Granting, Gapping}
 use Rattle.charts.specs.declared.Way.TheVariants.{Pass}
@@ -319,9 +318,9 @@ labelled x = record { to = 0; head = head 0 x; datum = 0 }
 abbrev pub holding : ℕ → List State
 holding x =
     map (moved (fresh 2) Idle 1)
-    (set_buffer (Full (labelled x)) fresh_cell ∷ set_sending (labelled x) fresh_cell ∷ set_mode (BodyOwn (head 0 x)) fresh_cell ∷ set_mode (BodyAll (head 0 x)) fresh_cell
-    ∷ set_mode (TailOwn (head 0 x) (D.Good 0)) fresh_cell ∷ set_mode (TailOwn (head 0 x) D.Bad) fresh_cell
-    ∷ set_mode (TailAll (head 0 x) (D.Good 0)) fresh_cell ∷ set_mode (TailAll (head 0 x) D.Bad) fresh_cell ∷ [])
+    (set_buffer (Some (labelled x)) fresh_cell ∷ set_sending (labelled x) fresh_cell ∷ set_mode (BodyOwn (head 0 x)) fresh_cell ∷ set_mode (BodyAll (head 0 x)) fresh_cell
+    ∷ set_mode (TailOwn (head 0 x) (Some 0)) fresh_cell ∷ set_mode (TailOwn (head 0 x) None) fresh_cell
+    ∷ set_mode (TailAll (head 0 x) (Some 0)) fresh_cell ∷ set_mode (TailAll (head 0 x) None) fresh_cell ∷ [])
     ++ map (λ c. moved (fresh 2) (Delivering 0 (Header (head 0 x) c) 1) 1 fresh_cell) (true ∷ false ∷ [])
 
 -- "A state handed in that holds a label over 63 is refused by 12": 64 is, at each place; with 63 the step goes on, to 7
@@ -337,7 +336,7 @@ abbrev sends : List Action
 sends = times 6 (clock 0 ∷ pass ∷ []) ++ (gap ∷ gap ∷ [])
 
 pub played_out :
-    (shows (moved (fresh 2) Idle 0 (set_buffer (Full its_own) fresh_cell)) (arbitrate 0 ∷ sends) ≡ record { reports = at 0 (Won 0) ∷ at 13 (Miss 0 9) ∷ []; refusals = []; done = 15; bus = Idle })
+    (shows (moved (fresh 2) Idle 0 (set_buffer (Some its_own) fresh_cell)) (arbitrate 0 ∷ sends) ≡ record { reports = at 0 (Won 0) ∷ at 13 (Miss 0 9) ∷ []; refusals = []; done = 15; bus = Idle })
     × (shows (moved (fresh 2) Busy 0 (set_holder true (set_mode (Sending 0) (set_sending its_own fresh_cell)))) sends ≡ record { reports = at 12 (Miss 0 9) ∷ []; refusals = []; done = 14; bus = Idle })
 unfolding step look play outcome Actions.request Actions.arbitrate Actions.respond Actions.clock Actions.carry Actions.grant Actions.gap Actions.reset Actions.ask Actions.decide output arrives hears clean move_of read valid phase_fits cell_fits mode_fits
 played_out = (refl, refl)

@@ -1,4 +1,6 @@
 -- Request 8: the action that a trial chooses, by the rule that chose it; after waiting it is open, and an arbitration wins.
+use Rattle.std.specs.Prelude.{None, Ok, Option, Some}
+use Rattle.charts.specs.declared.Packet.{Packet}
 use mathlib.Core.Path.{◌≡◌, refl, sym, ap, subst, ◌∙◌}
 use mathlib.Core.Logic.{⊎_elim}
 use mathlib.Core.Bool.{Bool, true, false, cond, ◌&&◌, ◌||◌, not}
@@ -13,14 +15,11 @@ use Rattle.charts.specs.declared.Phase.TheVariants.{Idle, Busy, Delivering, Gran
 use Rattle.charts.specs.declared.Report.TheVariants as R
 use Rattle.charts.specs.declared.Report.TheVariants.{Won}
 use Rattle.charts.specs.declared.Marking.TheVariants as M
-use Rattle.charts.specs.declared.Buffer.{Buffer}
-use Rattle.charts.specs.declared.Buffer.TheVariants.{Empty, Full}
 use Rattle.charts.specs.declared.Arrival.{Arrival}
 use Rattle.charts.specs.declared.Arrival.TheVariants as A
 use Rattle.charts.specs.declared.Way.TheVariants.{Pass, Lose}
 use Rattle.charts.specs.declared.Move.TheVariants.{Request, Arbitrate, Respond, Clock, Carry, Grant, GapNext, Reset}
 use Rattle.charts.specs.declared.Action.{Action}
-use Rattle.charts.specs.declared.Decoded.TheVariants.{Accepted}
 use Rattle.charts.specs.declared.User.{User}
 use Rattle.charts.specs.declared.Kept.{Kept}
 use Rattle.charts.specs.Modes as P
@@ -120,11 +119,11 @@ pub holder_lt : (s : State) → Ran s → s.phase ≡ Busy → holder_of s < s.n
 holder_lt s r b = (acts_one s r b).here
 
 -- 3. each is open
-read_request : (n i : ℕ) (u : User) (x : Kept) → i < n → is_address n u.address ≡ true → is_own i u.address ≡ false → read n (request_by i u x) ≡ Accepted (Request i (packet_of (request_by i u x)))
+read_request : (n i : ℕ) (u : User) (x : Kept) → i < n → is_address n u.address ≡ true → is_own i u.address ≡ false → read n (request_by i u x) ≡ Ok (Request i (packet_of (request_by i u x)))
 unfolding read clean move_of
 read_request n i u x l f g = rw (lt-ltb i n l, f, g, lt-ltb (x.made % 64) 64 (omega arith))
 
-read_respond : (n i : ℕ) (b : Bool) → i < n → read n (respond_by i b) ≡ Accepted (Respond i 1 b)
+read_respond : (n i : ℕ) (b : Bool) → i < n → read n (respond_by i b) ≡ Ok (Respond i 1 b)
 unfolding read clean move_of
 read_respond n i true l = rw (lt-ltb i n l)
 read_respond n i false l = rw (lt-ltb i n l)
@@ -180,21 +179,21 @@ module _ (s : State) (r : Ran s) where
       y : (not (is_empty (s.cell i).buffer) ≡ true) × (not (s.cell i).won ≡ true)
       y = and-true (not (is_empty (s.cell i).buffer)) _ f
 
-      o : Buffer → Bool → Outcome
-      o Empty w = closed
-      o (Full p) w = cond (true && not w) (does (Won i) Busy (Actions.wins p (s.cell i)) M.Nothing) (does (R.Lost i) Idle (Actions.loses (s.cell i)) M.Nothing)
+      o : Option Packet → Bool → Outcome
+      o None w = closed
+      o (Some p) w = cond (true && not w) (does (Won i) Busy (Actions.wins p (s.cell i)) M.Nothing) (does (R.Lost i) Idle (Actions.loses (s.cell i)) M.Nothing)
 
-      same : (b : Buffer) → Actions.decided s.phase i (s.cell i) b ≡ o b (s.cell i).won
-      same Empty = refl
-      same (Full p) = ap (λ ph. cond (is_idle ph && not (s.cell i).won) (does (Won i) Busy (Actions.wins p (s.cell i)) M.Nothing) (does (R.Lost i) ph (Actions.loses (s.cell i)) M.Nothing)) q
+      same : (b : Option Packet) → Actions.decided s.phase i (s.cell i) b ≡ o b (s.cell i).won
+      same None = refl
+      same (Some p) = ap (λ ph. cond (is_idle ph && not (s.cell i).won) (does (Won i) Busy (Actions.wins p (s.cell i)) M.Nothing) (does (R.Lost i) ph (Actions.loses (s.cell i)) M.Nothing)) q
 
       is : step s (of_node 2 i) ≡ carry_out s i (o (s.cell i).buffer (s.cell i).won)
       is = step_is s r.valid_is (of_node 2 i) (Arbitrate i) (read_named s.n 2 i refl refl refl l) ∙ ap (λ b. carry_out s i (when b (Actions.decided s.phase i (s.cell i) (s.cell i).buffer))) e ∙ ap (carry_out s i) (same (s.cell i).buffer)
 
-      go : (b : Buffer) → not (is_empty b) ≡ true → (w : Bool) → not w ≡ true → (is_accepted (carry_out s i (o b w)) ≡ true) × ((carry_out s i (o b w)).report ≡ Won i)
-      go Empty e w g = never e
-      go (Full p) e true g = never g
-      go (Full p) e false g = (refl, refl)
+      go : (b : Option Packet) → not (is_empty b) ≡ true → (w : Bool) → not w ≡ true → (is_accepted (carry_out s i (o b w)) ≡ true) × ((carry_out s i (o b w)).report ≡ Won i)
+      go None e w g = never e
+      go (Some p) e true g = never g
+      go (Some p) e false g = (refl, refl)
 
   clock_opens_here : (i : ℕ) → Acts s i → s.phase ≡ Busy → is_open s (of_node 4 i) ≡ true
   unfolding move_of Actions.outcome Actions.clock

@@ -1,5 +1,6 @@
 -- Why a book that is not wrong says "exactly one confirmation": in any list of events at all, where node i's book is not wrong, each accepted request of i is in one
 -- place of it (confirmed, running or waiting), and each confirmation of i confirmed one of them. Besides, a book that is not wrong never was, and what it has confirmed stays in it.
+use Rattle.std.specs.Prelude.{None, Option, Some}
 use mathlib.Core.Path.{◌≡◌, refl, sym, ap, ◌∙◌}
 use mathlib.Core.Bool.{Bool, true, false, not, true≢false}
 use mathlib.Core.List.{List, [], ◌∷◌, ◌++◌, append-nil, append_assoc}
@@ -10,8 +11,6 @@ use lib.ListN.{length, length-append}
 use Rattle.charts.specs.declared.Report.{Report}
 use Rattle.charts.specs.declared.Report.TheVariants.{Silent, Won, Lost, Sent, Acked, Miss, Drop, Good, Dcrc, Broad}
 use Rattle.charts.specs.declared.Packet.{Packet}
-use Rattle.charts.specs.declared.Buffer.{Buffer}
-use Rattle.charts.specs.declared.Buffer.TheVariants.{Empty, Full}
 use Rattle.charts.specs.declared.Move.{Move}
 use Rattle.charts.specs.declared.Move.TheVariants.{Request, Arbitrate, Respond, Clock, Carry, Grant, GapNext, Reset, Ask, Decide}
 use Rattle.charts.specs.State.{is_empty}
@@ -55,9 +54,9 @@ moves_adds mine Reset b w = stays b w
 moves_adds mine (Ask i) b w = stays b w
 moves_adds mine (Decide i) b w = stays b w
 
-wins_adds : (f : Buffer) (b : Book) → b.waiting ≡ f → (wins f b).wrong ≡ false → Adds b (wins f b) 0 0
-wins_adds Empty b e w = absurd (true≢false w)
-wins_adds (Full p) b e w =
+wins_adds : (f : Option Packet) (b : Book) → b.waiting ≡ f → (wins f b).wrong ≡ false → Adds b (wins f b) 0 0
+wins_adds None b e w = absurd (true≢false w)
+wins_adds (Some p) b e w =
     let z = or-false b.wrong _ w in record { sound = z.0; all = omega (arith, ap one z.1, ap (λ u. one (not (is_empty u))) e); new = []; past = refl; many = refl }
 
 confirms_adds : (q : Report) (r : Run) (b : Book) → b.running ≡ r → (confirms q r b).wrong ≡ false → Adds b (confirms q r b) 0 1

@@ -1,4 +1,6 @@
 -- Outside Idle some forward action is open: the decision of a node that is Asked; where none is, pass, grant or gap; on a Busy bus the clock of a holder, or its respond or request where the clock would be a filler.
+use Rattle.std.specs.Prelude.{Err, None, Ok, Option, Some}
+use Rattle.charts.specs.declared.Refusal.TheVariants as Rf
 use mathlib.Core.Path.{◌≡◌, refl, sym, ap, subst, ◌∙◌}
 use mathlib.Core.Logic.{◌≢◌, ◌⊎◌, inl, inr, ⊎_elim}
 use mathlib.Core.Bool.{Bool, true, false, cond, ◌&&◌, ◌||◌, not, true≢false}
@@ -17,15 +19,11 @@ use Rattle.charts.specs.declared.Report.{Report}
 use Rattle.charts.specs.declared.Cell.{Cell}
 use Rattle.charts.specs.declared.Marking.{Marking}
 use Rattle.charts.specs.declared.Packet.{Packet}
-use Rattle.charts.specs.declared.Buffer.{Buffer}
-use Rattle.charts.specs.declared.Buffer.TheVariants.{Empty, Full}
 use Rattle.charts.specs.declared.Way.TheVariants.{Pass}
 use Rattle.charts.specs.declared.Move.{Move}
 use Rattle.charts.specs.declared.Move.TheVariants.{Request, Respond, Clock, Carry, Grant, GapNext, Decide}
 use Rattle.charts.specs.declared.Action.{Action}
-use Rattle.charts.specs.declared.Decoded.{Decoded}
-use Rattle.charts.specs.declared.Decoded.TheVariants.{Refused, Accepted}
-use Rattle.charts.specs.Numbers as N
+use Rattle.charts.specs.Records.{Decoded}
 use Rattle.charts.specs.Modes as P
 use Rattle.charts.specs.Modes.{place_of, is_rest, is_answering, is_holding, is_spurious, is_asked}
 use Rattle.charts.specs.Reception.{hears}
@@ -46,7 +44,7 @@ use Rattle.charts.specs.Settings.{HoldsAlone}
 use Rattle.charts.specs.Asking.{of_node}
 use Rattle.charts.proofs.Tools.{never, clash, implies, implied, and-true, both, and_no, pick, none_of, some_at, lowest_of, lowest_lt, others_none, table_at, mem, mem_one, neither, or_yes, or-false, by_test}
 use Rattle.charts.proofs.Places.{law_mode, active, step_of, mode_is}
-use Rattle.charts.proofs.Steps.{Decodes, turned, taken, decodes, is_valid}
+use Rattle.charts.proofs.Steps.{Decodes, turned, taken, decodes, is_valid, refuses_it}
 use Rattle.charts.proofs.Stages.{turn_at, clear_steps, acting, BusyAt, talks, clears, Stage}
 use Rattle.charts.proofs.Reach.{Reach, answerers, is_talker}
 use Rattle.charts.proofs.Progress.{acting_step_lem, odd_clear}
@@ -75,7 +73,7 @@ clear_answers m h a z = go (eqb (place_of m) P.sending) refl
     go false e = rest e (held (eqb (place_of m) P.holding) refl)
 
 -- a record that names its node alone, and one below n, is read
-pub read_named : (n k i : ℕ) → is_kind k ≡ true → names_node k ≡ true → names_address k ≡ false → i < n → read n (of_node k i) ≡ Accepted (move_of (of_node k i))
+pub read_named : (n k i : ℕ) → is_kind k ≡ true → names_node k ≡ true → names_address k ≡ false → i < n → read n (of_node k i) ≡ Ok (move_of (of_node k i))
 unfolding read clean
 read_named n k i e f g l = rw (e, f, g, or_yes (names_answer k), (or-false (names_packet k) _ g).0, lt-ltb i n l)
 
@@ -91,21 +89,21 @@ module _ (s : State) (v : valid s ≡ true) where
   Found = (a : Action) × (is_forward s a ≡ true)
 
   -- what a record that is read does
-  pub step_is : (a : Action) (m : Move) → read s.n a ≡ Accepted m → step s a ≡ carry_out s (about s m) (comes_to s m)
+  pub step_is : (a : Action) (m : Move) → read s.n a ≡ Ok m → step s a ≡ carry_out s (about s m) (comes_to s m)
   unfolding step look play
-  step_is a m q = ap (step_with s) (ap (λ b. cond b (read s.n a) (Refused N.not_valid)) v ∙ q)
+  step_is a m q = ap (step_with s) (ap (λ b. cond b (read s.n a) (Err Rf.NotValid)) v ∙ q)
 
   -- one that is read as an open move is an open action; if the move is a forward one, a forward action
-  pub opens_it : (a : Action) (m : Move) → read s.n a ≡ Accepted m → Opens (comes_to s m) → is_open s a ≡ true
+  pub opens_it : (a : Action) (m : Move) → read s.n a ≡ Ok m → Opens (comes_to s m) → is_open s a ≡ true
   opens_it a m q o = ap is_accepted (step_is a m q) ∙ go (comes_to s m) o
     where
       go : (o : Outcome) → Opens o → is_accepted (carry_out s (about s m) o) ≡ true
       go o opens = refl
 
-  is_open_lem : (a : Action) (m : Move) → move_of a ≡ m → read s.n a ≡ Accepted m → Opens (comes_to s m) → forward s m ≡ true → Found
+  is_open_lem : (a : Action) (m : Move) → move_of a ≡ m → read s.n a ≡ Ok m → Opens (comes_to s m) → forward s m ≡ true → Found
   is_open_lem a m e q o f = (a, both _ _ (opens_it a m q o) (ap (forward s) e ∙ f))
 
-  read_request : (i : ℕ) → i < s.n → read s.n (to_all i) ≡ Accepted (Request i (nothing_to 63))
+  read_request : (i : ℕ) → i < s.n → read s.n (to_all i) ≡ Ok (Request i (nothing_to 63))
   unfolding read clean move_of
   read_request i l = let small = (is_valid s v).small in rw (lt-ltb i s.n l, or_yes (ltb 63 s.n), ne_eqb 63 i (λ e. omega arith))
 
@@ -114,9 +112,9 @@ module _ (s : State) (v : valid s ≡ true) where
   unfolding move_of Actions.outcome Actions.decide
   decide_opens i l e f = is_open_lem (of_node 12 i) (Decide i) refl (read_named s.n 12 i refl refl refl l) (open_when (is_asked (s.cell i).mode) _ e (go (s.cell i).buffer f)) refl
     where
-      go : (b : Buffer) → is_empty b ≡ false → Opens (Actions.decided s.phase i (s.cell i) b)
-      go Empty f = absurd (true≢false f)
-      go (Full p) f = pick Opens (is_idle s.phase && not (s.cell i).won) _ _ opens opens
+      go : (b : Option Packet) → is_empty b ≡ false → Opens (Actions.decided s.phase i (s.cell i) b)
+      go None f = absurd (true≢false f)
+      go (Some p) f = pick Opens (is_idle s.phase && not (s.cell i).won) _ _ opens opens
 
   -- a move that waits for nodes that are Asked, where none is
   pub open_now : some_asked s ≡ false → (o : Outcome) → Opens o → Opens (when (not (some_asked s)) o)
@@ -240,11 +238,11 @@ module _ (s : State) (v : valid s ≡ true) where
         go u (Gapping j) q a e = is_open_lem (of_node 9 0) GapNext refl refl (open_now u _ (subst (λ p. Opens (Actions.gap hears s.n p (s.cell (Actions.next_of p)))) (sym q) (pick Opens (ltb (suc j) s.n) _ _ opens opens))) refl
 
 -- what is open is read as the record's move
-pub open_reads : (s : State) (a : Action) → is_open s a ≡ true → read s.n a ≡ Accepted (move_of a)
+pub open_reads : (s : State) (a : Action) → is_open s a ≡ true → read s.n a ≡ Ok (move_of a)
 unfolding step look
-open_reads s a e = by_test (valid s) (λ v. go (read s.n a) refl (decodes s.n a) (sym (ap (λ b. is_accepted (step_with s (cond b (read s.n a) (Refused N.not_valid)))) v) ∙ e))
-    (λ v. never (sym (ap (λ b. is_accepted (step_with s (cond b (read s.n a) (Refused N.not_valid)))) v) ∙ e))
+open_reads s a e = by_test (valid s) (λ v. go (read s.n a) refl (decodes s.n a) (sym (ap (λ b. is_accepted (step_with s (cond b (read s.n a) (Err Rf.NotValid)))) v) ∙ e))
+    (λ v. never (sym (ap (λ b. is_accepted (step_with s (cond b (read s.n a) (Err Rf.NotValid)))) v) ∙ e))
   where
-    go : (d : Decoded) → read s.n a ≡ d → Decodes s.n a d → is_accepted (step_with s d) ≡ true → read s.n a ≡ Accepted (move_of a)
-    go (Refused k) q (turned z) f = clash _ f z
-    go (Accepted m) q (taken k) f = q
+    go : (d : Decoded) → read s.n a ≡ d → Decodes s.n a d → is_accepted (step_with s d) ≡ true → read s.n a ≡ Ok (move_of a)
+    go (Err k) q turned f = clash _ f (refuses_it k)
+    go (Ok m) q (taken k) f = q

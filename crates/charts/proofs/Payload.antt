@@ -1,5 +1,6 @@
 -- What nodes remember of the packet that was started last: who may remember it, and that what they remember and report are its own address, header and datum.
 -- So at most one node is told of it and answers.
+use Rattle.std.specs.Prelude.{None, Option, Some}
 use mathlib.Core.Path.{◌≡◌, refl, sym, ap, subst, ◌∙◌}
 use mathlib.Core.Logic.{◌≢◌}
 use mathlib.Core.Bool.{Bool, true, false, ◌&&◌, ◌||◌, not}
@@ -10,8 +11,6 @@ use lib.Dec.{T, eqb, ltb}
 use lib.ListN.{get_or}
 use borrow.Author.Tests.{eqb-true, ltb-true, ltb-false, not-true}
 use Rattle.charts.specs.declared.Head.{Head}
-use Rattle.charts.specs.declared.Datum.{Datum}
-use Rattle.charts.specs.declared.Datum.TheVariants as D
 use Rattle.charts.specs.declared.Mode.{Mode}
 use Rattle.charts.specs.declared.Mode.TheVariants.{HeadOwn, HeadAll, BodyOwn, BodyAll, TailOwn, TailAll, Sending, Acking, Holding}
 use Rattle.charts.specs.declared.Signal.{Signal}
@@ -52,9 +51,9 @@ abbrev pub blank : List ℕ
 blank = P.rest ∷ P.asked ∷ P.await_ack ∷ P.ack_body ∷ P.ack_good ∷ P.ack_none ∷ P.opened ∷ P.addressed ∷ P.wait ∷ P.owed ∷ P.sending ∷ P.holding ∷ P.spurious ∷ P.listening ∷ []
 
 -- good data are the packet's; of bad data nothing is kept
-abbrev pub Read : Packet → Datum → Type 0
-Read p (D.Good d) = d ≡ p.datum
-Read p D.Bad = Unit {0}
+abbrev pub Read : Packet → Option ℕ → Type 0
+Read p (Some d) = d ≡ p.datum
+Read p None = Unit {0}
 
 -- what node k, misled or not, remembers of the packet p
 pub data Bears (p : Packet) (k : ℕ) (misled : Bool) : Mode → Type 0 where
@@ -63,8 +62,8 @@ pub data Bears (p : Packet) (k : ℕ) (misled : Bool) : Mode → Type 0 where
   led_all : (misled ≡ false → p.to ≡ everybody) → Bears p k misled HeadAll
   head_own_lem : {h : Head} → p.to ≡ k → h ≡ p.head → Bears p k misled (BodyOwn h)
   head_all_lem : {h : Head} → p.to ≡ everybody → h ≡ p.head → Bears p k misled (BodyAll h)
-  tail_own : {h : Head} {d : Datum} → p.to ≡ k → h ≡ p.head → Read p d → Bears p k misled (TailOwn h d)
-  tail_all : {h : Head} {d : Datum} → p.to ≡ everybody → h ≡ p.head → Read p d → Bears p k misled (TailAll h d)
+  tail_own : {h : Head} {d : Option ℕ} → p.to ≡ k → h ≡ p.head → Read p d → Bears p k misled (TailOwn h d)
+  tail_all : {h : Head} {d : Option ℕ} → p.to ≡ everybody → h ≡ p.head → Read p d → Bears p k misled (TailAll h d)
   answers : {m : Mode} → mem (place_of m) answerers ≡ true → p.to ≡ k → Bears p k misled m
 
 -- a report tells of p only
@@ -174,10 +173,10 @@ module _ (p : Packet) (k label : ℕ) (w : Bool) where
   heard g z (head_all_lem a h) =
       pick_by Fine (eqb (class_of k g) S.data_good) _ _ (λ e. (tail_all a h (subst (Says p w) (signal_is k g S.data_good e) z), told_none refl)) λ e.
       pick Fine (eqb (class_of k g) S.data_bad) _ _ (tail_all a h tt, told_none refl) (falling _ refl (class_of k g))
-  heard g z (tail_own {d = D.Good d} a h r) = pick Fine (closes (class_of k g)) _ _ (answers refl a, told_good a h r) (plain refl refl)
-  heard g z (tail_own {d = D.Bad} a h r) = pick Fine (closes (class_of k g)) _ _ (answers refl a, told_dcrc a h) (plain refl refl)
-  heard g z (tail_all {d = D.Good d} a h r) = pick Fine (closes (class_of k g)) _ _ (nothing refl, told_broad a) (falling _ refl (class_of k g))
-  heard g z (tail_all {d = D.Bad} a h r) = pick Fine (closes (class_of k g)) _ _ (plain refl refl) (falling _ refl (class_of k g))
+  heard g z (tail_own {d = Some d} a h r) = pick Fine (closes (class_of k g)) _ _ (answers refl a, told_good a h r) (plain refl refl)
+  heard g z (tail_own {d = None} a h r) = pick Fine (closes (class_of k g)) _ _ (answers refl a, told_dcrc a h) (plain refl refl)
+  heard g z (tail_all {d = Some d} a h r) = pick Fine (closes (class_of k g)) _ _ (nothing refl, told_broad a) (falling _ refl (class_of k g))
+  heard g z (tail_all {d = None} a h r) = pick Fine (closes (class_of k g)) _ _ (plain refl refl) (falling _ refl (class_of k g))
   heard g z (answers {m = m} e a) =
       let y = and-true _ _ (implied _ _ (law (λ y p c. implies (mem p answerers) (mem y.place answerers && ltb y.word W.good)) tt k label m g) e) in (answers y.0 a, told_none y.1)
 
@@ -217,10 +216,10 @@ answers_to t (led_own f) = never t
 answers_to t (led_all f) = never t
 answers_to t (head_own_lem a h) = never t
 answers_to t (head_all_lem a h) = never t
-answers_to t (tail_own {d = D.Good d} a h r) = never t
-answers_to t (tail_own {d = D.Bad} a h r) = never t
-answers_to t (tail_all {d = D.Good d} a h r) = never t
-answers_to t (tail_all {d = D.Bad} a h r) = never t
+answers_to t (tail_own {d = Some d} a h r) = never t
+answers_to t (tail_own {d = None} a h r) = never t
+answers_to t (tail_all {d = Some d} a h r) = never t
+answers_to t (tail_all {d = None} a h r) = never t
 answers_to t (answers e a) = a
 
 -- so at most one node answers

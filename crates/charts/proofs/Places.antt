@@ -1,5 +1,6 @@
 -- Modes by their places, and the reception chart by places and classes: `key` says once that what a node comes to goes by the place of its mode and the class of the signal,
 -- so that a rule of the chart is one test, computed over 25 × 14 pairs (`law`).
+use Rattle.std.specs.Prelude.{None, Some}
 use mathlib.Core.Path.{◌≡◌, refl, sym, ap, subst, ◌∙◌}
 use mathlib.Core.Bool.{Bool, true, false, cond, ◌&&◌, ◌||◌, not, beq}
 use mathlib.Core.List.{List, [], ◌∷◌}
@@ -7,8 +8,6 @@ use Prim.Native.Nat.{ℕ, ◌<◌, ◌+◌, ◌*◌}
 use lib.Dec.{T, eqb, lit<}
 use lib.ListN.{get_or}
 use borrow.Author.Tests.{eqb-true, not-true}
-use Rattle.charts.specs.declared.Seen.TheVariants as Sn
-use Rattle.charts.specs.declared.Datum.TheVariants as D
 use Rattle.charts.specs.declared.Mode.{Mode}
 use Rattle.charts.specs.declared.Mode.TheVariants.{Rest, AwaitAck, AckBody, AckEnd, Opened, Addressed, HeadOwn, HeadAll, BodyOwn, BodyAll, TailOwn, TailAll, Wait, Owed, Sending, Told, Answering, Acking, Holding, Spurious, Listening, Asked}
 use Rattle.charts.specs.declared.Signal.{Signal}
@@ -32,18 +31,18 @@ pub mode_at_lem : (m : Mode) → m ≡ get_or (modes (step_in m) (ack_in m) (hol
 mode_at_lem Rest = refl
 mode_at_lem AwaitAck = refl
 mode_at_lem AckBody = refl
-mode_at_lem (AckEnd (Sn.Ack a)) = refl
-mode_at_lem (AckEnd Sn.Nothing) = refl
+mode_at_lem (AckEnd (Some a)) = refl
+mode_at_lem (AckEnd None) = refl
 mode_at_lem Opened = refl
 mode_at_lem Addressed = refl
 mode_at_lem HeadOwn = refl
 mode_at_lem HeadAll = refl
 mode_at_lem (BodyOwn h) = refl
 mode_at_lem (BodyAll h) = refl
-mode_at_lem (TailOwn h (D.Good d)) = refl
-mode_at_lem (TailOwn h D.Bad) = refl
-mode_at_lem (TailAll h (D.Good d)) = refl
-mode_at_lem (TailAll h D.Bad) = refl
+mode_at_lem (TailOwn h (Some d)) = refl
+mode_at_lem (TailOwn h None) = refl
+mode_at_lem (TailAll h (Some d)) = refl
+mode_at_lem (TailAll h None) = refl
 mode_at_lem Wait = refl
 mode_at_lem Owed = refl
 mode_at_lem (Sending k) = refl
@@ -59,18 +58,18 @@ pub place_lt : (m : Mode) → place_of m < 25
 place_lt Rest = lit< tt
 place_lt AwaitAck = lit< tt
 place_lt AckBody = lit< tt
-place_lt (AckEnd (Sn.Ack a)) = lit< tt
-place_lt (AckEnd Sn.Nothing) = lit< tt
+place_lt (AckEnd (Some a)) = lit< tt
+place_lt (AckEnd None) = lit< tt
 place_lt Opened = lit< tt
 place_lt Addressed = lit< tt
 place_lt HeadOwn = lit< tt
 place_lt HeadAll = lit< tt
 place_lt (BodyOwn h) = lit< tt
 place_lt (BodyAll h) = lit< tt
-place_lt (TailOwn h (D.Good d)) = lit< tt
-place_lt (TailOwn h D.Bad) = lit< tt
-place_lt (TailAll h (D.Good d)) = lit< tt
-place_lt (TailAll h D.Bad) = lit< tt
+place_lt (TailOwn h (Some d)) = lit< tt
+place_lt (TailOwn h None) = lit< tt
+place_lt (TailAll h (Some d)) = lit< tt
+place_lt (TailAll h None) = lit< tt
 place_lt Wait = lit< tt
 place_lt Owed = lit< tt
 place_lt (Sending k) = lit< tt
@@ -125,8 +124,8 @@ pub key : (me label : ℕ) (m : Mode) (c : ℕ) (s : Signal) → entry_of (answe
 key me label Rest c s = refl
 key me label AwaitAck c s = arms (eqb c S.prefix) _ _ _ _ refl (arms (eqb c S.start) _ _ _ _ refl (arms (eqb c S.gap) _ _ _ _ refl refl))
 key me label AckBody c s = arms (eqb c S.gap) _ _ _ _ refl (arms (is_line c) _ _ _ _ refl (arms (eqb c S.ack_good) _ _ _ _ refl refl))
-key me label (AckEnd (Sn.Ack a)) c s = arms (eqb c S.end) _ _ _ _ refl (arms (eqb c S.prefix) _ _ _ _ refl (arms (eqb c S.gap) _ _ _ _ refl refl))
-key me label (AckEnd Sn.Nothing) c s = arms (eqb c S.gap) _ _ _ _ refl refl
+key me label (AckEnd (Some a)) c s = arms (eqb c S.end) _ _ _ _ refl (arms (eqb c S.prefix) _ _ _ _ refl (arms (eqb c S.gap) _ _ _ _ refl refl))
+key me label (AckEnd None) c s = arms (eqb c S.gap) _ _ _ _ refl refl
 key me label Opened c s = arms (eqb c S.gap) _ _ _ _ refl (arms (is_line c) _ _ _ _ refl refl)
 key me label Addressed c s =
     arms (eqb c S.dest_own) _ _ _ _ refl (arms (eqb c S.dest_all) _ _ _ _ refl (arms (eqb c S.dest_other) _ _ _ _ refl (arms (eqb c S.gap) _ _ _ _ refl refl)))
@@ -134,10 +133,10 @@ key me label HeadOwn c s = arms (eqb c S.header_good) _ _ _ _ refl refl
 key me label HeadAll c s = arms (eqb c S.header_good) _ _ _ _ refl (arms (eqb c S.gap) _ _ _ _ refl refl)
 key me label (BodyOwn h) c s = arms (eqb c S.data_good) _ _ _ _ refl (arms (eqb c S.data_bad) _ _ _ _ refl refl)
 key me label (BodyAll h) c s = arms (eqb c S.data_good) _ _ _ _ refl (arms (eqb c S.data_bad) _ _ _ _ refl (arms (eqb c S.gap) _ _ _ _ refl refl))
-key me label (TailOwn h (D.Good d)) c s = arms (closes c) _ _ _ _ refl refl
-key me label (TailOwn h D.Bad) c s = arms (closes c) _ _ _ _ refl refl
-key me label (TailAll h (D.Good d)) c s = arms (closes c) _ _ _ _ refl (arms (eqb c S.gap) _ _ _ _ refl refl)
-key me label (TailAll h D.Bad) c s = arms (closes c) _ _ _ _ refl (arms (eqb c S.gap) _ _ _ _ refl refl)
+key me label (TailOwn h (Some d)) c s = arms (closes c) _ _ _ _ refl refl
+key me label (TailOwn h None) c s = arms (closes c) _ _ _ _ refl refl
+key me label (TailAll h (Some d)) c s = arms (closes c) _ _ _ _ refl (arms (eqb c S.gap) _ _ _ _ refl refl)
+key me label (TailAll h None) c s = arms (closes c) _ _ _ _ refl (arms (eqb c S.gap) _ _ _ _ refl refl)
 key me label Wait c s = refl
 key me label Owed c s = refl
 key me label (Sending k) c s = refl

@@ -1,4 +1,7 @@
 -- What a step can be: a refusal that leaves the state, or an effect (Ways.antt) of the record's action on a valid state, about a node below n.
+use Rattle.std.specs.Prelude.{Err, Ok}
+use Rattle.charts.specs.declared.Refusal.{Refusal}
+use Rattle.charts.specs.declared.Refusal.TheVariants as Rf
 use mathlib.Core.Path.{◌≡◌, refl, sym, ap, subst, ◌∙◌}
 use mathlib.Core.Bool.{Bool, true, false, cond, ◌&&◌, not}
 use mathlib.Core.List.{List, [], ◌∷◌}
@@ -17,9 +20,9 @@ use Rattle.charts.specs.declared.Way.TheVariants.{Pass, Lose, Change}
 use Rattle.charts.specs.declared.Move.{Move}
 use Rattle.charts.specs.declared.Move.TheVariants.{Request, Arbitrate, Respond, Clock, Carry, Grant, GapNext, Reset, Ask, Decide}
 use Rattle.charts.specs.declared.Action.{Action}
-use Rattle.charts.specs.declared.Decoded.{Decoded}
-use Rattle.charts.specs.declared.Decoded.TheVariants.{Refused, Accepted}
+use Rattle.charts.specs.Records.{Decoded}
 use Rattle.charts.specs.Numbers as N
+use Rattle.charts.specs.Numbers.{number_of}
 use Rattle.charts.specs.State.{State, pendings, remarked}
 use Rattle.charts.specs.Actions.{Outcome, closed, does, next_of, target, when}
 use Rattle.charts.specs.Records.{is_kind, names_node, names_address, names_packet, clean, is_address, is_own, is_label, move_of, bad_node, bad_address, bad_label, requests_itself, bad_answer, read}
@@ -51,10 +54,28 @@ then_not : (a b : Bool) → a && b ≡ false → a ≡ true → b ≡ false
 then_not true b e q = e
 then_not false b e q = never q
 
--- 2 to 6, 13 and 15: a refusal has a number other than 0, and what is accepted is the record's action with its fields in range
+-- no refusal has the number 0
+pub refuses_it : (k : Refusal) → eqb (number_of k) N.accepted ≡ false
+refuses_it Rf.WrongSize = refl
+refuses_it Rf.WrongKind = refl
+refuses_it Rf.StrayField = refl
+refuses_it Rf.WrongNode = refl
+refuses_it Rf.WrongAddress = refl
+refuses_it Rf.WrongAnswer = refl
+refuses_it Rf.NotOpen = refl
+refuses_it Rf.WrongLength = refl
+refuses_it Rf.WrongCheck = refl
+refuses_it Rf.WrongOrder = refl
+refuses_it Rf.WrongCount = refl
+refuses_it Rf.NotValid = refl
+refuses_it Rf.WrongLabel = refl
+refuses_it Rf.TooDeep = refl
+refuses_it Rf.ToItself = refl
+
+-- 2 to 6, 13 and 15: what is accepted is the record's action with its fields in range
 pub data Decodes (n : ℕ) (a : Action) : Decoded → Type 0 where
-  turned : {k : ℕ} → eqb k N.accepted ≡ false → Decodes n a (Refused k)
-  taken : Known n (move_of a) → Decodes n a (Accepted (move_of a))
+  turned : {k : Refusal} → Decodes n a (Err k)
+  taken : Known n (move_of a) → Decodes n a (Ok (move_of a))
 
 -- past kind 10 a node is named
 names_last : (k : ℕ) → eqb k 5 ≡ false → eqb k 6 ≡ false → eqb k 7 ≡ false → eqb k 8 ≡ false → eqb k 9 ≡ false → eqb k 10 ≡ false → names_node k ≡ true
@@ -86,13 +107,13 @@ move_known n a node addr label other ack =
 pub decodes : (n : ℕ) (a : Action) → Decodes n a (read n a)
 unfolding read
 decodes n a =
-    pick_by (Decodes n a) (not (is_kind a.kind)) _ _ (λ e. turned refl) λ e2.
-    pick_by (Decodes n a) (not (clean a)) _ _ (λ e. turned refl) λ e3.
-    pick_by (Decodes n a) (bad_node n a) _ _ (λ e. turned refl) λ e4.
-    pick_by (Decodes n a) (bad_address n a) _ _ (λ e. turned refl) λ e5.
-    pick_by (Decodes n a) (bad_label a) _ _ (λ e. turned refl) λ e13.
-    pick_by (Decodes n a) (requests_itself a) _ _ (λ e. turned refl) λ e15.
-    pick_by (Decodes n a) (bad_answer a) _ _ (λ e. turned refl) λ e6.
+    pick_by (Decodes n a) (not (is_kind a.kind)) _ _ (λ e. turned) λ e2.
+    pick_by (Decodes n a) (not (clean a)) _ _ (λ e. turned) λ e3.
+    pick_by (Decodes n a) (bad_node n a) _ _ (λ e. turned) λ e4.
+    pick_by (Decodes n a) (bad_address n a) _ _ (λ e. turned) λ e5.
+    pick_by (Decodes n a) (bad_label a) _ _ (λ e. turned) λ e13.
+    pick_by (Decodes n a) (requests_itself a) _ _ (λ e. turned) λ e15.
+    pick_by (Decodes n a) (bad_answer a) _ _ (λ e. turned) λ e6.
     taken (move_known n a (λ u. ltb-true a.node n (implied_or _ _ e4 u)) (implied_or _ _ e5) (implied_or _ _ e13) (then_not _ _ e15) (and-true (ltb a.ack 16) _ (not-false _ e6)).0)
 
 -- 12
@@ -142,7 +163,7 @@ pub data Stepped (s : State) (a : Action) : Result → Event → Type 0 where
 
 pub stepped : (s : State) (a : Action) → Stepped s a (step s a) (event_of a (step s a))
 unfolding step look play
-stepped s a = pick_by (λ d. Stepped s a (step_with s d) (event_of a (step_with s d))) (valid s) (read s.n a) (Refused N.not_valid) (λ e. go e (read s.n a) (decodes s.n a)) (λ e. turn N.not_valid refl)
+stepped s a = pick_by (λ d. Stepped s a (step_with s d) (event_of a (step_with s d))) (valid s) (read s.n a) (Err Rf.NotValid) (λ e. go e (read s.n a) (decodes s.n a)) (λ e. turn Rf.NotValid)
   where
     out : valid s ≡ true → Known s.n (move_of a) → may_act s (move_of a) ≡ true → (o : Outcome) → Effect s (move_of a) (about s (move_of a)) o → Stepped s a (carry_out s (about s (move_of a)) o) (event_of a (carry_out s (about s (move_of a)) o))
     out e k f closed x = refused refl
@@ -153,12 +174,12 @@ stepped s a = pick_by (λ d. Stepped s a (step_with s d) (event_of a (step_with 
     may e k true f = out e k f (outcome_of s (move_of a)) (effect s (move_of a))
     may e k false f = refused refl
 
-    turn : (k : ℕ) → eqb k N.accepted ≡ false → Stepped s a (refuses s k) (cond (eqb k N.accepted) (accepted (move_of a) R.Silent) (refusal k))
-    turn k e = subst (λ b. Stepped s a (refuses s k) (cond b (accepted (move_of a) R.Silent) (refusal k))) (sym e) (refused e)
+    turn : (k : Refusal) → Stepped s a (refuses s (number_of k)) (cond (eqb (number_of k) N.accepted) (accepted (move_of a) R.Silent) (refusal (number_of k)))
+    turn k = subst (λ b. Stepped s a (refuses s (number_of k)) (cond b (accepted (move_of a) R.Silent) (refusal (number_of k)))) (sym (refuses_it k)) (refused (refuses_it k))
 
     go : valid s ≡ true → (d : Decoded) → Decodes s.n a d → Stepped s a (step_with s d) (event_of a (step_with s d))
-    go e (Refused k) (turned q) = turn k q
-    go e (Accepted m) (taken k) = may e k (may_act s (move_of a)) refl
+    go e (Err k) turned = turn k
+    go e (Ok m) (taken k) = may e k (may_act s (move_of a)) refl
 
 -- the number of nodes never changes
 pub remarked_n : (x : Marking) (t : State) → (remarked x t).n ≡ t.n

@@ -1,5 +1,6 @@
 -- The second form of the claim about confirmations (specs/Stretch.antt), from the first: what a book that is not wrong says of a node is found again in the list of events itself.
 -- `Story` is that reading of a book: where the waiting request was accepted, where the running one started, and that the notes since are those of the events since.
+use Rattle.std.specs.Prelude.{None, Option, Some}
 use mathlib.Core.Path.{◌≡◌, refl, sym, ap, subst, ◌∙◌}
 use mathlib.Core.Logic.{◌⊎◌, inl, inr}
 use mathlib.Core.Bool.{Bool, true, false, cond, ◌&&◌, ◌||◌, not, and_assoc, true≢false}
@@ -11,8 +12,6 @@ use borrow.Author.Tests.{eqb-true, eq-eqb}
 use Rattle.charts.specs.declared.Report.{Report}
 use Rattle.charts.specs.declared.Report.TheVariants.{Silent, Won, Lost, Sent, Acked, Miss, Drop, Good, Dcrc, Broad}
 use Rattle.charts.specs.declared.Packet.{Packet}
-use Rattle.charts.specs.declared.Buffer.{Buffer}
-use Rattle.charts.specs.declared.Buffer.TheVariants.{Empty, Full}
 use Rattle.charts.specs.declared.Phase.{Phase}
 use Rattle.charts.specs.declared.Cell.{Cell}
 use Rattle.charts.specs.declared.Marking.{Marking}
@@ -143,9 +142,9 @@ record Running (i : ℕ) (l : List Event) (p : Packet) (ns : List Note) : Type 0
   last : no_other i (held i (early ++ (start ∷ []))) later ≡ true
   since : Since later ns
 
-abbrev Waits : ℕ → List Event → Buffer → Type 0
-Waits i l Empty = Unit {0}
-Waits i l (Full p) = Waiting i l p
+abbrev Waits : ℕ → List Event → Option Packet → Type 0
+Waits i l None = Unit {0}
+Waits i l (Some p) = Waiting i l p
 
 abbrev Runs : ℕ → List Event → Run → Type 0
 Runs i l none = Unit {0}
@@ -161,9 +160,9 @@ module _ (i : ℕ) (l : List Event) (e : Event) where
   held_on : held i (l ++ (e ∷ [])) ≡ held_from i (held i l) (e ∷ [])
   held_on = held_append i false l (e ∷ [])
 
-  waits_on : (w : Buffer) → no_won i (e ∷ []) ≡ true → Waits i l w → Waits i (l ++ (e ∷ [])) w
-  waits_on Empty q v = tt
-  waits_on (Full p) q v = record {
+  waits_on : (w : Option Packet) → no_won i (e ∷ []) ≡ true → Waits i l w → Waits i (l ++ (e ∷ [])) w
+  waits_on None q v = tt
+  waits_on (Some p) q v = record {
     early = v.early;
     report = v.report;
     later = v.later ++ (e ∷ []);
@@ -264,9 +263,9 @@ module _ (i : ℕ) (l : List Event) (b : Book) (v : Story i l b) where
     other r q c = ap (λ u. not ((u && held i l) || (won_of i r || confirmation_of i r)) && true) (s.no_request i) ∙ ap (λ w. not w && true) (neither _ _ q c)
 
     -- node i's won: the waiting request starts
-    my_won : (f : Buffer) → Waits i l f → (wins f b).wrong ≡ false → Story i (l ++ (accepted m (Won i) ∷ [])) (wins f b)
-    my_won Empty u w = absurd (true≢false w)
-    my_won (Full p) u w = record {
+    my_won : (f : Option Packet) → Waits i l f → (wins f b).wrong ≡ false → Story i (l ++ (accepted m (Won i) ∷ [])) (wins f b)
+    my_won None u w = absurd (true≢false w)
+    my_won (Some p) u w = record {
       holds = v.holds ∙ sym (held_on i l (accepted m (Won i)) ∙ s.no_hold i (held i l));
       waiting = tt;
       running = begins i l _ (by_won u.report u.early u.later u.split u.unheld u.unwon);

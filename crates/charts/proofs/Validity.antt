@@ -1,4 +1,5 @@
 -- Number 12: a fresh bus is valid, every step keeps a state valid, so 12 never shows in a run from a fresh bus. And n never changes.
+use Rattle.std.specs.Prelude.{Err, Ok, Option}
 use mathlib.Core.Path.{◌≡◌, refl, sym, ap, subst, ◌∙◌}
 use mathlib.Core.Logic.{◌≢◌, ⊎_elim}
 use mathlib.Core.Bool.{Bool, true, false, not}
@@ -16,7 +17,6 @@ use Rattle.charts.specs.declared.Signal.TheVariants.{Start, End, Prefix, Gap, Dh
 use Rattle.charts.specs.declared.Report.{Report}
 use Rattle.charts.specs.declared.Report.TheVariants.{Silent}
 use Rattle.charts.specs.declared.Packet.{Packet}
-use Rattle.charts.specs.declared.Buffer.{Buffer}
 use Rattle.charts.specs.declared.Phase.{Phase}
 use Rattle.charts.specs.declared.Phase.TheVariants.{Delivering}
 use Rattle.charts.specs.declared.Cell.{Cell}
@@ -27,8 +27,7 @@ use Rattle.charts.specs.declared.Move.{Move}
 use Rattle.charts.specs.declared.Move.TheVariants.{Carry}
 use Rattle.charts.specs.declared.Way.{Way}
 use Rattle.charts.specs.declared.Action.{Action}
-use Rattle.charts.specs.declared.Decoded.{Decoded}
-use Rattle.charts.specs.declared.Decoded.TheVariants.{Refused, Accepted}
+use Rattle.charts.specs.Records.{Decoded}
 use Rattle.charts.specs.Modes as P
 use Rattle.charts.specs.Modes.{place_of, is_told, is_owed}
 use Rattle.charts.specs.Signals as S
@@ -36,6 +35,7 @@ use Rattle.charts.specs.Signals.{class_of, is_line, head_of, ack_of, is_end}
 use Rattle.charts.specs.Places.{step_in, ack_in, hold_in, head_in, datum_in, modes}
 use Rattle.charts.specs.Reception.{falls, hears}
 use Rattle.charts.specs.Numbers as N
+use Rattle.charts.specs.Numbers.{number_of}
 use Rattle.charts.specs.State.{State, moved, remarked, fresh, some, others, pendings, holders}
 use Rattle.charts.specs.Actions.{Outcome, closed, does, first_other, next_other, onward}
 use Rattle.charts.specs.Records.{is_kind, clean, is_address, is_label, bad_node, bad_address, bad_label, requests_itself, bad_answer, read}
@@ -60,7 +60,7 @@ fresh_valid n two small =
     valid_is (fresh n) record { two = two; small = small; phase_fits_lem = refl; cells_fit = λ k l. rw (lt-ltb 0 n (omega arith)) refl }
 
 -- what 12 looks at in a cell: its mode, its buffer and the packet that it is sending
-pub record Fitting (n : ℕ) (m : Mode) (b : Buffer) (p : Packet) : Type 0 where
+pub record Fitting (n : ℕ) (m : Mode) (b : Option Packet) (p : Packet) : Type 0 where
   pub mode_fits_lem : mode_fits m ≡ true
   pub buffer_fits_lem : buffer_fits n b ≡ true
   pub packet_fits_lem : packet_fits n p ≡ true
@@ -290,8 +290,8 @@ run_valid n two small l = valid_after (fresh n) l (fresh_valid n two small)
 
 -- 12 is the answer to a state that is not valid only: reading a record gives 2 to 6, 13 or 15, playing an action 0 or 7
 abbrev Not12 : Decoded → Type 0
-Not12 (Refused k) = eqb k N.not_valid ≡ false
-Not12 (Accepted m) = Unit {0}
+Not12 (Err k) = eqb (number_of k) N.not_valid ≡ false
+Not12 (Ok m) = Unit {0}
 
 read_not_12 : (n : ℕ) (a : Action) → Not12 (read n a)
 unfolding read
@@ -313,8 +313,8 @@ number_not_12 s a v = eqb-false _ _ (rw v (go (read s.n a) (read_not_12 s.n a)))
     out i (does r p c x) = refl
 
     go : (d : Decoded) → Not12 d → eqb (step_with s d).number N.not_valid ≡ false
-    go (Refused k) l = l
-    go (Accepted m) l = out (about s m) (comes_to s m)
+    go (Err k) l = l
+    go (Ok m) l = out (about s m) (comes_to s m)
 
 -- "12": it never shows in a run from a fresh bus
 pub never_12 : (n : ℕ) → 2 ≤ n → n < 64 → (l : List Action) (r : Result) → Memᴰ r (results (fresh n) l) → r.number ≢ N.not_valid

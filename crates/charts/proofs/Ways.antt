@@ -1,4 +1,5 @@
 -- The one walk through the actions: the fifteen ways in which an accepted action acts. Every invariant is then proved by one clause for each way.
+use Rattle.std.specs.Prelude.{None, Option, Some}
 use mathlib.Core.Path.{◌≡◌, refl, sym, ap, ap₂, subst, ◌∙◌}
 use mathlib.Core.Bool.{Bool, true, false, ◌&&◌, ◌||◌, not}
 use Prim.Native.Nat.{ℕ, suc, ◌<◌, ◌≤◌}
@@ -13,8 +14,6 @@ use Rattle.charts.specs.declared.Signal.TheVariants.{Start, End, Prefix, Gap, Dh
 use Rattle.charts.specs.declared.Report.{Report}
 use Rattle.charts.specs.declared.Report.TheVariants as R
 use Rattle.charts.specs.declared.Packet.{Packet}
-use Rattle.charts.specs.declared.Buffer.{Buffer}
-use Rattle.charts.specs.declared.Buffer.TheVariants.{Empty, Full}
 use Rattle.charts.specs.declared.Phase.{Phase}
 use Rattle.charts.specs.declared.Phase.TheVariants.{Idle, Busy, Delivering, Granting, Gapping}
 use Rattle.charts.specs.declared.Output.{Output}
@@ -101,10 +100,10 @@ contends_rests (asked e) = ap (λ p. mem p resting) e
 -- an action m about node i comes to o, in one of sixteen ways (or it is not open)
 pub data Effect (s : State) : Move → ℕ → Outcome → Type 0 where
   refuses : {m : Move} {i : ℕ} → Effect s m i closed
-  waits : {i : ℕ} {p : Packet} → place_of (s.cell i).mode ≡ P.rest → (s.cell i).buffer ≡ Empty → Effect s (Request i p) i (quietly s.phase (fills p (s.cell i)))
+  waits : {i : ℕ} {p : Packet} → place_of (s.cell i).mode ≡ P.rest → (s.cell i).buffer ≡ None → Effect s (Request i p) i (quietly s.phase (fills p (s.cell i)))
   replies : {i : ℕ} {p : Packet} → (s.cell i).mode ≡ Holding → Effect s (Request i p) i (quietly s.phase (Actions.replies p (s.cell i)))
   claims : {i : ℕ} → place_of (s.cell i).mode ≡ P.rest → is_empty (s.cell i).buffer ≡ false → Effect s (Ask i) i (quietly s.phase (Actions.asks (s.cell i)))
-  wins : {m : Move} {i : ℕ} {p : Packet} → Contends s i m → s.phase ≡ Idle → (s.cell i).buffer ≡ Full p → (s.cell i).won ≡ false →
+  wins : {m : Move} {i : ℕ} {p : Packet} → Contends s i m → s.phase ≡ Idle → (s.cell i).buffer ≡ Some p → (s.cell i).won ≡ false →
       Effect s m i (does (R.Won i) Busy (Actions.wins p (s.cell i)) M.Nothing)
   loses : {m : Move} {i : ℕ} → Contends s i m → Effect s m i (does (R.Lost i) s.phase (Actions.loses (s.cell i)) M.Nothing)
   gives : {i a : ℕ} {h : Bool} → (s.cell i).mode ≡ Answering → may_answer s.concatenated h ≡ true → Effect s (Respond i a h) i (quietly s.phase (answers a h (s.cell i)))
@@ -145,9 +144,9 @@ is_granting_lem (Delivering w g j) e = never e
 is_granting_lem Granting e = refl
 is_granting_lem (Gapping j) e = never e
 
-is_empty_lem : (b : Buffer) → is_empty b ≡ true → b ≡ Empty
-is_empty_lem Empty e = refl
-is_empty_lem (Full p) e = never e
+is_empty_lem : (b : Option Packet) → is_empty b ≡ true → b ≡ None
+is_empty_lem None e = refl
+is_empty_lem (Some p) e = never e
 
 module _ (s : State) where
   when_effect : (m : Move) (i : ℕ) (b : Bool) (o : Outcome) → (b ≡ true → Effect s m i o) → Effect s m i (when b o)
@@ -161,9 +160,9 @@ module _ (s : State) where
       (λ e. let y = and-true (is_rest (s.cell i).mode) _ e in waits (eqb-true _ _ y.0) (is_empty_lem (s.cell i).buffer y.1))
       (λ e. when_effect _ _ (is_holding (s.cell i).mode) _ λ z. replies (mode_is (s.cell i).mode P.holding (eqb-true _ _ z)))
 
-  contend : (m : Move) (i : ℕ) → Contends s i m → (b : Buffer) → (s.cell i).buffer ≡ b → Effect s m i (Actions.decided s.phase i (s.cell i) b)
-  contend m i c Empty u = refuses
-  contend m i c (Full p) u =
+  contend : (m : Move) (i : ℕ) → Contends s i m → (b : Option Packet) → (s.cell i).buffer ≡ b → Effect s m i (Actions.decided s.phase i (s.cell i) b)
+  contend m i c None u = refuses
+  contend m i c (Some p) u =
       pick_by (Effect s m i) (is_idle s.phase && not (s.cell i).won) _ _
       (λ e. let y = and-true (is_idle s.phase) _ e in wins c (is_idle_lem s.phase y.0) u (not-true _ y.1)) (λ e. loses c)
 

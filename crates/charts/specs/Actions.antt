@@ -1,7 +1,7 @@
 -- "Bus and actions": what each of the twelve kinds of action does. An action is about one node i: it makes a report, the bus goes to a phase, and that node's cell changes;
 -- beyond that a Start clears the misled marks, a reset the won marks, and the bus's own mark is set by the Prefix that closes an acknowledgement and cleared where the bus becomes Idle.
 -- So each action is a function of the few values that it looks at. Where a node gets a signal, what it does with it is the function h: the chart `hears`, which a table may stand for.
-use Rattle.std.specs.Prelude.{Bool, true, false, cond, ◌&&◌, ◌||◌, not, ℕ, suc, eqb, ltb}
+use Rattle.std.specs.Prelude.{Bool, true, false, cond, ◌&&◌, ◌||◌, not, ℕ, suc, eqb, ltb, None, Option, Some}
 use Rattle.charts.specs.declared.Mode.{Mode}
 use Rattle.charts.specs.declared.Mode.TheVariants.{Rest, Sending, Answering, Acking, Spurious, Asked}
 use Rattle.charts.specs.declared.Signal.{Signal}
@@ -9,8 +9,6 @@ use Rattle.charts.specs.declared.Signal.TheVariants.{Gap}
 use Rattle.charts.specs.declared.Report.{Report}
 use Rattle.charts.specs.declared.Report.TheVariants as R
 use Rattle.charts.specs.declared.Packet.{Packet}
-use Rattle.charts.specs.declared.Buffer.{Buffer}
-use Rattle.charts.specs.declared.Buffer.TheVariants.{Empty, Full}
 use Rattle.charts.specs.declared.Phase.{Phase}
 use Rattle.charts.specs.declared.Phase.TheVariants.{Idle, Busy, Delivering, Granting, Gapping}
 use Rattle.charts.specs.declared.Cell.{Cell}
@@ -49,7 +47,7 @@ starts p c = set_mode (Sending 0) (set_sending p c)
 
 -- 1. request: "in Rest with an empty buffer it fills the buffer; in Holding it becomes the packet being sent, → Sending"
 abbrev pub fills : Packet → Cell → Cell
-fills p c = set_buffer (Full p) c
+fills p c = set_buffer (Some p) c
 
 abbrev pub replies : Packet → Cell → Cell
 replies p c = starts p c
@@ -62,14 +60,14 @@ request ph c p =
 -- 2. arbitrate: "in Rest, buffer full. Bus Idle and not marked won: report won, mark won and holder, bus Busy, packet leaves the buffer, → Sending.
 -- Otherwise report lost; nothing changes". (12: "a loser returns to Rest"; a loser of kind 2 is there already: proofs/Asking.antt, lost-stays)
 abbrev pub wins : Packet → Cell → Cell
-wins p c = set_buffer Empty (set_won true (set_holder true (starts p c)))
+wins p c = set_buffer None (set_won true (set_holder true (starts p c)))
 
 abbrev pub loses : Cell → Cell
 loses c = set_mode Rest c
 
-abbrev pub decided : Phase → ℕ → Cell → Buffer → Outcome
-decided ph i c Empty = closed
-decided ph i c (Full p) =
+abbrev pub decided : Phase → ℕ → Cell → Option Packet → Outcome
+decided ph i c None = closed
+decided ph i c (Some p) =
     cond (is_idle ph && not c.won)
     (does (R.Won i) Busy (wins p c) M.Nothing)
     (does (R.Lost i) ph (loses c) M.Nothing)

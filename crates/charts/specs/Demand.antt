@@ -1,11 +1,9 @@
 -- Demand 3. Each definition stands under the sentence of "The words of demand 3" (document 01) that it says; the claim, Demand3, is at the end. No proof is in this file.
-use Rattle.std.specs.Prelude.{◌≡◌, ◌⊎◌, Bool, true, false, cond, ◌&&◌, ◌||◌, not, List, [], ◌∷◌, ℕ, ◌<◌, ◌+◌, ◌*◌, eqb, length}
+use Rattle.std.specs.Prelude.{◌≡◌, ◌⊎◌, Bool, true, false, cond, ◌&&◌, ◌||◌, not, List, [], ◌∷◌, ℕ, ◌<◌, ◌+◌, ◌*◌, eqb, length, None, Option, Some}
 use Rattle.charts.specs.declared.Mode.TheVariants.{Rest, Asked}
 use Rattle.charts.specs.declared.Report.{Report}
 use Rattle.charts.specs.declared.Report.TheVariants.{Silent, Won, Lost, Sent, Acked, Miss, Drop, Good, Dcrc, Broad}
 use Rattle.charts.specs.declared.Packet.{Packet}
-use Rattle.charts.specs.declared.Buffer.{Buffer}
-use Rattle.charts.specs.declared.Buffer.TheVariants.{Empty, Full}
 use Rattle.charts.specs.declared.Move.{Move}
 use Rattle.charts.specs.declared.Move.TheVariants.{Request, Arbitrate, Respond, Clock, Carry, Grant, GapNext, Reset, Ask, Decide}
 use Rattle.charts.specs.declared.Action.{Action}
@@ -32,13 +30,13 @@ pub record Confirmed : Type 0 where
 
 pub record Book : Type 0 where
   pub held : Bool  -- the node's last accepted respond had hold 1, and no request of the node was accepted since
-  pub waiting : Buffer  -- accepted and not started
+  pub waiting : Option Packet  -- accepted and not started
   pub running : Run  -- started and not confirmed
   pub confirmed : List Confirmed  -- started and confirmed
   pub wrong : Bool  -- something happened that has no place in the book
 
 abbrev pub new_book : Book
-new_book = record { held = false; waiting = Empty; running = none; confirmed = []; wrong = false }
+new_book = record { held = false; waiting = None; running = none; confirmed = []; wrong = false }
 
 abbrev pub is_run : Run → Bool
 is_run none = false
@@ -51,12 +49,12 @@ goes_wrong b = record { held = b.held; waiting = b.waiting; running = b.running;
 -- Any other waits: wrong while another of its node waits
 abbrev pub asks : Bool → Packet → Book → Book
 asks true p b = record { held = false; waiting = b.waiting; running = run p []; confirmed = b.confirmed; wrong = b.wrong || is_run b.running }
-asks false p b = record { held = false; waiting = Full p; running = b.running; confirmed = b.confirmed; wrong = b.wrong || not (is_empty b.waiting) }
+asks false p b = record { held = false; waiting = Some p; running = b.running; confirmed = b.confirmed; wrong = b.wrong || not (is_empty b.waiting) }
 
 -- "Any other starts with its node's next won": wrong where none waits or another runs
-abbrev pub wins : Buffer → Book → Book
-wins Empty b = goes_wrong b
-wins (Full p) b = record { held = b.held; waiting = Empty; running = run p []; confirmed = b.confirmed; wrong = b.wrong || is_run b.running }
+abbrev pub wins : Option Packet → Book → Book
+wins None b = goes_wrong b
+wins (Some p) b = record { held = b.held; waiting = None; running = run p []; confirmed = b.confirmed; wrong = b.wrong || is_run b.running }
 
 -- "A confirmation is a report sent, ack or miss. It belongs to the request that its node started last": wrong where that one is confirmed already, or none was started
 abbrev pub confirms : Report → Run → Book → Book

@@ -1,4 +1,5 @@
 pub mod Numbers
+pub mod Kinds
 pub mod Modes
 pub mod Signals
 pub mod Words

@@ -1,8 +1,6 @@
 -- The places of the modes in document 01's list, the good one of two first: AckEnd with a good Ack or without, TailOwn and TailAll with good or bad data.
 -- (Request 2's table has its lines in this order, and new modes come last.)
-use Rattle.std.specs.Prelude.{Bool, cond, ℕ, eqb}
-use Rattle.charts.specs.declared.Seen.TheVariants as Sn
-use Rattle.charts.specs.declared.Datum.TheVariants as D
+use Rattle.std.specs.Prelude.{Bool, cond, ℕ, eqb, None, Some}
 use Rattle.charts.specs.declared.Mode.{Mode}
 use Rattle.charts.specs.declared.Mode.TheVariants.{Rest, AwaitAck, AckBody, AckEnd, Opened, Addressed, HeadOwn, HeadAll, BodyOwn, BodyAll, TailOwn, TailAll, Wait, Owed, Sending, Told, Answering, Acking, Holding, Spurious, Listening, Asked}
 use Rattle.charts.specs.declared.Reading.{Reading}
@@ -87,18 +85,18 @@ abbrev pub place_of : Mode → ℕ
 place_of Rest = rest
 place_of AwaitAck = await_ack
 place_of AckBody = ack_body
-place_of (AckEnd (Sn.Ack a)) = ack_good
-place_of (AckEnd Sn.Nothing) = ack_none
+place_of (AckEnd (Some a)) = ack_good
+place_of (AckEnd None) = ack_none
 place_of Opened = opened
 place_of Addressed = addressed
 place_of HeadOwn = head_own
 place_of HeadAll = head_all
 place_of (BodyOwn h) = body_own
 place_of (BodyAll h) = body_all
-place_of (TailOwn h (D.Good d)) = tail_own_good
-place_of (TailOwn h D.Bad) = tail_own_bad
-place_of (TailAll h (D.Good d)) = tail_all_good
-place_of (TailAll h D.Bad) = tail_all_bad
+place_of (TailOwn h (Some d)) = tail_own_good
+place_of (TailOwn h None) = tail_own_bad
+place_of (TailAll h (Some d)) = tail_all_good
+place_of (TailAll h None) = tail_all_bad
 place_of Wait = wait
 place_of Owed = owed
 place_of (Sending k) = sending

@@ -1,5 +1,7 @@
 -- "The twelve numbers" of document 01 and those that requests added: each stands here once, with its condition, and everything else cites it by name.
-use Rattle.std.specs.Prelude.{ℕ}
+use Rattle.std.specs.Prelude.{ℕ, Option, Some, None, Result, Ok, Err}
+use Rattle.charts.specs.declared.Refusal.{Refusal}
+use Rattle.charts.specs.declared.Refusal.TheVariants.{WrongSize, WrongKind, StrayField, WrongNode, WrongAddress, WrongAnswer, NotOpen, WrongLength, WrongCheck, WrongOrder, WrongCount, NotValid, WrongLabel, TooDeep, ToItself}
 
 -- no refusal
 abbrev pub accepted : ℕ
@@ -64,3 +66,30 @@ too_deep = 14
 -- 15 (request 10): request to the node itself
 abbrev pub to_itself : ℕ
 to_itself = 15
+
+-- the number of each refusal
+abbrev pub number_of : Refusal → ℕ
+number_of WrongSize = wrong_size
+number_of WrongKind = wrong_kind
+number_of StrayField = stray_field
+number_of WrongNode = wrong_node
+number_of WrongAddress = wrong_address
+number_of WrongAnswer = wrong_answer
+number_of NotOpen = not_open
+number_of WrongLength = wrong_length
+number_of WrongCheck = wrong_check
+number_of WrongOrder = wrong_order
+number_of WrongCount = wrong_count
+number_of NotValid = not_valid
+number_of WrongLabel = wrong_label
+number_of TooDeep = too_deep
+number_of ToItself = to_itself
+
+-- the number of what is refused, if it is refused; of what is taken it is `accepted`
+abbrev pub refusal_number : Option Refusal → ℕ
+refusal_number None = accepted
+refusal_number (Some k) = number_of k
+
+abbrev pub err_number : {T : Type 0} → Result T Refusal → ℕ
+err_number (Ok x) = accepted
+err_number (Err k) = number_of k

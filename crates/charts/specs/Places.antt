@@ -1,23 +1,19 @@
 -- What a mode remembers, and the modes by their places: a mode is made of its place and what it remembers (proofs/Places.antt).
 -- The clauses of the modes are printed by tools/places.py.
-use Rattle.std.specs.Prelude.{Bool, false, List, [], ◌∷◌, ℕ}
+use Rattle.std.specs.Prelude.{Bool, false, List, [], ◌∷◌, ℕ, None, Option, Some}
 use Rattle.charts.specs.declared.Head.{Head}
-use Rattle.charts.specs.declared.Seen.{Seen}
-use Rattle.charts.specs.declared.Seen.TheVariants as Sn
-use Rattle.charts.specs.declared.Datum.{Datum}
-use Rattle.charts.specs.declared.Datum.TheVariants as D
 use Rattle.charts.specs.declared.Mode.{Mode}
 use Rattle.charts.specs.declared.Mode.TheVariants.{Rest, AwaitAck, AckBody, AckEnd, Opened, Addressed, HeadOwn, HeadAll, BodyOwn, BodyAll, TailOwn, TailAll, Wait, Owed, Sending, Told, Answering, Acking, Holding, Spurious, Listening, Asked}
 use Rattle.charts.specs.Signals.{no_head}
 
 -- the acknowledgement of a good Ack, and the datum of good data; else 0
-abbrev pub good_ack : Seen → ℕ
-good_ack (Sn.Ack a) = a
-good_ack Sn.Nothing = 0
+abbrev pub good_ack : Option ℕ → ℕ
+good_ack (Some a) = a
+good_ack None = 0
 
-abbrev pub good_datum : Datum → ℕ
-good_datum (D.Good d) = d
-good_datum D.Bad = 0
+abbrev pub good_datum : Option ℕ → ℕ
+good_datum (Some d) = d
+good_datum None = 0
 
 -- the step, acknowledgement, hold, header and datum that a mode remembers
 abbrev pub step_in : Mode → ℕ
@@ -143,4 +139,4 @@ datum_in Asked = 0
 -- the modes by their places
 abbrev pub modes : ℕ → ℕ → Bool → Head → ℕ → List Mode
 modes k a b h d =
-    Rest ∷ AwaitAck ∷ AckBody ∷ (AckEnd (Sn.Ack a)) ∷ (AckEnd Sn.Nothing) ∷ Opened ∷ Addressed ∷ HeadOwn ∷ HeadAll ∷ (BodyOwn h) ∷ (BodyAll h) ∷ (TailOwn h (D.Good d)) ∷ (TailOwn h D.Bad) ∷ (TailAll h (D.Good d)) ∷ (TailAll h D.Bad) ∷ Wait ∷ Owed ∷ (Sending k) ∷ Told ∷ Answering ∷ (Acking k a b) ∷ Holding ∷ Spurious ∷ Listening ∷ Asked ∷ []
+    Rest ∷ AwaitAck ∷ AckBody ∷ (AckEnd (Some a)) ∷ (AckEnd None) ∷ Opened ∷ Addressed ∷ HeadOwn ∷ HeadAll ∷ (BodyOwn h) ∷ (BodyAll h) ∷ (TailOwn h (Some d)) ∷ (TailOwn h None) ∷ (TailAll h (Some d)) ∷ (TailAll h None) ∷ Wait ∷ Owed ∷ (Sending k) ∷ Told ∷ Answering ∷ (Acking k a b) ∷ Holding ∷ Spurious ∷ Listening ∷ Asked ∷ []

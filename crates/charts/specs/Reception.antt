@@ -1,9 +1,6 @@
 -- "What a node does with a signal": the reception chart, 25 modes (AckEnd, TailOwn and TailAll count as two each) by 14 classes of signals.
-use Rattle.std.specs.Prelude.{true, false, cond, ℕ, eqb}
+use Rattle.std.specs.Prelude.{true, false, cond, ℕ, eqb, None, Option, Some}
 use Rattle.charts.specs.declared.Head.{Head}
-use Rattle.charts.specs.declared.Seen.TheVariants as Sn
-use Rattle.charts.specs.declared.Datum.{Datum}
-use Rattle.charts.specs.declared.Datum.TheVariants as D
 use Rattle.charts.specs.declared.Mode.{Mode}
 use Rattle.charts.specs.declared.Mode.TheVariants.{Rest, AwaitAck, AckBody, AckEnd, Opened, Addressed, HeadOwn, HeadAll, BodyOwn, BodyAll, TailOwn, TailAll, Wait, Owed, Sending, Told, Answering, Acking, Holding, Spurious, Listening, Asked}
 use Rattle.charts.specs.declared.Reading.TheVariants as Rd
@@ -26,14 +23,14 @@ abbrev pub falls : Report → Report → ℕ → Heard
 falls r q c = cond (eqb c S.gap) (tells Rest r) (tells Wait q)
 
 -- "report good h d, or dcrc h for bad data"
-abbrev pub told_of : ℕ → Head → Datum → Report
-told_of me h (D.Good d) = Good me h d
-told_of me h D.Bad = Dcrc me h
+abbrev pub told_of : ℕ → Head → Option ℕ → Report
+told_of me h (Some d) = Good me h d
+told_of me h None = Dcrc me h
 
 -- "report broad h d if the data were good"; request 4: "TailAll with bad data reports drop TailAll on End or Prefix too, though it goes to Rest"
-abbrev pub broad_of : ℕ → Head → Datum → Report
-broad_of me h (D.Good d) = Broad me h d
-broad_of me h D.Bad = Drop me Rd.TailAll
+abbrev pub broad_of : ℕ → Head → Option ℕ → Report
+broad_of me h (Some d) = Broad me h d
+broad_of me h None = Drop me Rd.TailAll
 
 -- what node `me` in a mode does with the signal s, which it meets as one of class c. Request 3: "The reports sent, ack, miss, good, dcrc and broad end with" a label;
 -- ack and miss with `label`, that of the packet that the node is sending, the others here with that of the header h
@@ -45,11 +42,11 @@ answer me label AwaitAck c s = cond (eqb c S.prefix) (goes AwaitAck) (cond (eqb 
 -- AckBody (3RA): Gap: miss, Rest; another line signal: miss, Wait; else → AckEnd, remembering a if it was a good Ack
 answer me label AckBody c s =
     cond (eqb c S.gap) (tells Rest (Miss me label)) (cond (is_line c) (tells Wait (Miss me label))
-    (cond (eqb c S.ack_good) (goes (AckEnd (Sn.Ack (ack_of s)))) (goes (AckEnd Sn.Nothing))))
+    (cond (eqb c S.ack_good) (goes (AckEnd (Some (ack_of s)))) (goes (AckEnd None))))
 -- AckEnd (3RE): End after a good Ack: report ack a, Wait; Gap: miss, Rest; else miss, Wait. Request 1: "From AckEnd, Prefix after a good Ack now reports ack and goes to a new mode Listening"
-answer me label (AckEnd (Sn.Ack a)) c s =
+answer me label (AckEnd (Some a)) c s =
     cond (eqb c S.end) (tells Wait (Acked me a label)) (cond (eqb c S.prefix) (tells Listening (Acked me a label)) (falls (Miss me label) (Miss me label) c))
-answer me label (AckEnd Sn.Nothing) c s = falls (Miss me label) (Miss me label) c
+answer me label (AckEnd None) c s = falls (Miss me label) (Miss me label) c
 -- From here to TailAll, request 4: "When a node in Opened through the Tail modes goes to Wait or Owed, the report becomes drop and the name of the mode it left. A Gap to Rest is no drop, nor is a Dest
 -- of another node met in Addressed."
 -- Opened (4): Gap → Rest; another line signal → Wait; else → Addressed
@@ -64,9 +61,9 @@ answer me label HeadOwn c s = cond (eqb c S.header_good) (goes (BodyOwn (head_of
 answer me label HeadAll c s = cond (eqb c S.header_good) (goes (BodyAll (head_of s))) (falls Silent (Drop me Rd.HeadAll) c)
 -- BodyOwn / BodyAll (4RD): Data, good or bad → TailOwn / TailAll; else Owed / Wait. BodyAll on Gap → Rest
 answer me label (BodyOwn h) c s =
-    cond (eqb c S.data_good) (goes (TailOwn h (D.Good (datum_of s)))) (cond (eqb c S.data_bad) (goes (TailOwn h D.Bad)) (tells Owed (Drop me Rd.BodyOwn)))
+    cond (eqb c S.data_good) (goes (TailOwn h (Some (datum_of s)))) (cond (eqb c S.data_bad) (goes (TailOwn h None)) (tells Owed (Drop me Rd.BodyOwn)))
 answer me label (BodyAll h) c s =
-    cond (eqb c S.data_good) (goes (TailAll h (D.Good (datum_of s)))) (cond (eqb c S.data_bad) (goes (TailAll h D.Bad)) (falls Silent (Drop me Rd.BodyAll) c))
+    cond (eqb c S.data_good) (goes (TailAll h (Some (datum_of s)))) (cond (eqb c S.data_bad) (goes (TailAll h None)) (falls Silent (Drop me Rd.BodyAll) c))
 -- TailOwn: End or Prefix: report good h d, or dcrc h for bad data, and go to Told; else Owed
 answer me label (TailOwn h d) c s = cond (closes c) (tells Told (told_of me h d)) (tells Owed (Drop me Rd.TailOwn))
 -- TailAll: End or Prefix: report broad h d if the data were good, else drop, and go to Rest; Gap → Rest; else Wait

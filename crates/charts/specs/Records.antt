@@ -1,13 +1,12 @@
 -- An action record looked at by the numbers 2 to 5, 13, 15 and 6, in that order.
-use Rattle.std.specs.Prelude.{Bool, cond, ◌&&◌, ◌||◌, not, ℕ, eqb, ltb}
+use Rattle.std.specs.Prelude.{Bool, cond, ◌&&◌, ◌||◌, not, ℕ, eqb, ltb, Result, Err, Ok}
+use Rattle.charts.specs.declared.Refusal.{Refusal}
+use Rattle.charts.specs.declared.Refusal.TheVariants as R
 use Rattle.charts.specs.declared.Packet.{Packet}
 use Rattle.charts.specs.declared.Way.TheVariants.{Pass, Lose, Change}
 use Rattle.charts.specs.declared.Move.{Move}
 use Rattle.charts.specs.declared.Move.TheVariants.{Request, Arbitrate, Respond, Clock, Carry, Grant, GapNext, Reset, Ask, Decide}
 use Rattle.charts.specs.declared.Action.{Action}
-use Rattle.charts.specs.declared.Decoded.{Decoded}
-use Rattle.charts.specs.declared.Decoded.TheVariants.{Refused, Accepted}
-use Rattle.charts.specs.Numbers as N
 use Rattle.charts.specs.Signals.{everybody}
 
 -- "kind not 1–12" is refused
@@ -90,14 +89,18 @@ requests_itself a = names_packet a.kind && is_own a.node a.address
 abbrev pub bad_answer : Action → Bool
 bad_answer a = not (ltb a.ack 16 && ltb a.hold 2)
 
+-- an action record looked at: the action, or why it is refused
+abbrev pub Decoded : Type 0
+Decoded = Result Move Refusal
+
 -- "then 2 to 6", 13 "looked at after 5" and 15 "looked at after 13": the first number whose condition holds, or the action
 unfoldable pub read : ℕ → Action → Decoded
 read n a =
-    cond (not (is_kind a.kind)) (Refused N.wrong_kind)
-    (cond (not (clean a)) (Refused N.stray_field)
-    (cond (bad_node n a) (Refused N.wrong_node)
-    (cond (bad_address n a) (Refused N.wrong_address)
-    (cond (bad_label a) (Refused N.wrong_label)
-    (cond (requests_itself a) (Refused N.to_itself)
-    (cond (bad_answer a) (Refused N.wrong_answer)
-    (Accepted (move_of a))))))))
+    cond (not (is_kind a.kind)) (Err R.WrongKind)
+    (cond (not (clean a)) (Err R.StrayField)
+    (cond (bad_node n a) (Err R.WrongNode)
+    (cond (bad_address n a) (Err R.WrongAddress)
+    (cond (bad_label a) (Err R.WrongLabel)
+    (cond (requests_itself a) (Err R.ToItself)
+    (cond (bad_answer a) (Err R.WrongAnswer)
+    (Ok (move_of a))))))))

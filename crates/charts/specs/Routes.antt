@@ -1,13 +1,15 @@
 -- Request 9, "a route to an outcome", and request 11, "the first route": which continuations of a state lead to a report, which of them is the first, by which numbers the question is refused, and what the answers are. No proof is in this file.
-use Rattle.std.specs.Prelude.{◌≡◌, ◌≢◌, Bool, true, false, cond, ◌&&◌, ◌||◌, not, List, [], ◌∷◌, ◌++◌, ℕ, ◌≤◌, eqb, ltb, length, take, replicate}
+use Rattle.std.specs.Prelude.{◌≡◌, Bool, true, false, cond, ◌&&◌, ◌||◌, not, List, [], ◌∷◌, ◌++◌, ℕ, ◌≤◌, eqb, ltb, length, take, replicate, Option, Some, None, Ok, Err, Result as Outcome}
 use Rattle.charts.specs.declared.Report.{Report}
 use Rattle.charts.specs.declared.Report.TheVariants.{Silent}
 use Rattle.charts.specs.declared.Action.{Action}
 use Rattle.charts.specs.declared.Word.{Word}
 use Rattle.charts.specs.declared.Word.TheVariants as W
 use Rattle.charts.specs.declared.Question.{Question}
-use Rattle.charts.specs.declared.Answer.{Answer}
+use Rattle.charts.specs.declared.Route.{Route}
+use Rattle.charts.specs.declared.Refusal.{Refusal}
 use Rattle.charts.specs.Numbers as N
+use Rattle.charts.specs.Numbers.{number_of}
 use Rattle.charts.specs.Words as Words
 use Rattle.charts.specs.Words.{word_of}
 use Rattle.charts.specs.Records.{blank}
@@ -85,21 +87,32 @@ route_number s q d =
     N.accepted))
 
 -- the answers: a refusal, none, and a route
+abbrev pub Answer : Type 0
+Answer = Outcome (Option Route) Refusal
+
 abbrev pub in_places : List Action → List Action
 in_places l = take 6 (l ++ replicate 6 blank)
 
-abbrev pub refused_by : ℕ → Answer
-refused_by k = record { number = k; found = false; count = 0; actions = in_places [] }
-
 abbrev pub no_route : Answer
-no_route = refused_by N.accepted
+no_route = Ok None
 
 abbrev pub route : List Action → Answer
-route l = record { number = N.accepted; found = true; count = length l; actions = in_places l }
+route l = Ok (Some (record { count = length l; actions = in_places l }))
+
+abbrev pub has_route : Answer → Bool
+has_route (Ok (Some r)) = true
+has_route (Ok None) = false
+has_route (Err k) = false
+
+-- how many records its route has, else 0
+abbrev pub count_of : Answer → ℕ
+count_of (Ok (Some r)) = r.count
+count_of (Ok None) = 0
+count_of (Err k) = 0
 
 -- what a search may answer: "Some route is enough", and "It says there is none only if no such continuation exists", of all lists of records
 pub data Answers (s : State) (q : Question) (d : ℕ) : Answer → Type 0 where
-  refused : route_number s q d ≢ N.accepted → Answers s q d (refused_by (route_number s q d))
+  refused : (k : Refusal) → route_number s q d ≡ number_of k → Answers s q d (Err k)
   none : route_number s q d ≡ N.accepted → ((l : List Action) → IsRoute s q d l → ⊥) → Answers s q d no_route
   found : route_number s q d ≡ N.accepted → {l : List Action} → IsRoute s q d l → Answers s q d (route l)
 
@@ -112,4 +125,4 @@ pub record HoldsFirst (s : State) (q : Question) (d : ℕ) (x : Answer) : Type 0
 -- what the search answers: one of these answers, and a route that it holds is the first. It leaves one answer (`one_answer`, routes/proofs/First.antt)
 pub record FirstAnswers (s : State) (q : Question) (d : ℕ) (x : Answer) : Type 0 where
   pub answers : Answers s q d x
-  pub first : x.found ≡ true → HoldsFirst s q d x
+  pub first : has_route x ≡ true → HoldsFirst s q d x

@@ -1,10 +1,8 @@
 -- The state that the charts speak of: the nodes' records and marks as a function from numbers to cells. (View.antt shows the code's record as such a state.)
-use Rattle.std.specs.Prelude.{Bool, true, false, cond, ◌&&◌, ◌||◌, not, List, [], ◌∷◌, ℕ, zero, suc, ◌+◌, eqb, ltb}
+use Rattle.std.specs.Prelude.{Bool, true, false, cond, ◌&&◌, ◌||◌, not, List, [], ◌∷◌, ℕ, zero, suc, ◌+◌, eqb, ltb, None, Option, Some}
 use Rattle.charts.specs.declared.Mode.{Mode}
 use Rattle.charts.specs.declared.Mode.TheVariants.{Rest}
 use Rattle.charts.specs.declared.Packet.{Packet}
-use Rattle.charts.specs.declared.Buffer.{Buffer}
-use Rattle.charts.specs.declared.Buffer.TheVariants.{Empty, Full}
 use Rattle.charts.specs.declared.Phase.{Phase}
 use Rattle.charts.specs.declared.Phase.TheVariants.{Idle, Busy, Delivering, Granting, Gapping}
 use Rattle.charts.specs.declared.Cell.{Cell}
@@ -25,7 +23,7 @@ pub record State : Type 0 where
 abbrev pub set_mode : Mode → Cell → Cell
 set_mode m c = record { mode = m; buffer = c.buffer; sending = c.sending; won = c.won; pending = c.pending; holder = c.holder; misled = c.misled }
 
-abbrev pub set_buffer : Buffer → Cell → Cell
+abbrev pub set_buffer : Option Packet → Cell → Cell
 set_buffer b c = record { mode = c.mode; buffer = b; sending = c.sending; won = c.won; pending = c.pending; holder = c.holder; misled = c.misled }
 
 abbrev pub set_sending : Packet → Cell → Cell
@@ -120,9 +118,9 @@ is_granting (Delivering i s j) = false
 is_granting Granting = true
 is_granting (Gapping j) = false
 
-abbrev pub is_empty : Buffer → Bool
-is_empty Empty = true
-is_empty (Full p) = false
+abbrev pub is_empty : Option Packet → Bool
+is_empty None = true
+is_empty (Some p) = false
 
 -- the state in another phase and with another cell i
 abbrev pub moved : State → Phase → ℕ → Cell → State
@@ -147,7 +145,7 @@ abbrev pub nothing : Packet
 nothing = record { to = 0; head = no_head; datum = 0 }
 
 abbrev pub fresh_cell : Cell
-fresh_cell = record { mode = Rest; buffer = Empty; sending = nothing; won = false; pending = false; holder = false; misled = false }
+fresh_cell = record { mode = Rest; buffer = None; sending = nothing; won = false; pending = false; holder = false; misled = false }
 
 abbrev pub fresh : ℕ → State
 fresh n = record { n = n; phase = Idle; concatenated = false; cell = λ k. fresh_cell }

@@ -1,16 +1,16 @@
 -- A step on every state and every action record, a fresh bus for every n, and the play of a list.
-use Rattle.std.specs.Prelude.{Bool, cond, List, [], ◌∷◌, ℕ, eqb}
+use Rattle.std.specs.Prelude.{Bool, cond, List, [], ◌∷◌, ℕ, eqb, Err, Ok}
+use Rattle.charts.specs.declared.Refusal.TheVariants as R
 use Rattle.charts.specs.declared.Report.{Report}
 use Rattle.charts.specs.declared.Report.TheVariants.{Silent}
 use Rattle.charts.specs.declared.Move.{Move}
 use Rattle.charts.specs.declared.Action.{Action}
-use Rattle.charts.specs.declared.Decoded.{Decoded}
-use Rattle.charts.specs.declared.Decoded.TheVariants.{Refused, Accepted}
 use Rattle.charts.specs.Numbers as N
+use Rattle.charts.specs.Numbers.{number_of}
 use Rattle.charts.specs.Reception.{hears}
 use Rattle.charts.specs.State.{State, wons, pendings, holders, askers, some, moved, remarked, fresh}
 use Rattle.charts.specs.Actions.{Outcome, closed, does, when, may_be_open, target, outcome}
-use Rattle.charts.specs.Records.{move_of, read}
+use Rattle.charts.specs.Records.{Decoded, move_of, read}
 use Rattle.charts.specs.Valid.{is_size, valid}
 
 -- what a step returns: the number of its refusal or 0, its report and the state
@@ -50,11 +50,11 @@ play s m = carry_out s (about s m) (comes_to s m)
 
 -- "A step looks at 12, then 2 to 7" (13 after 5, 15 after 13).
 unfoldable pub look : State → Action → Decoded
-look s a = cond (valid s) (read s.n a) (Refused N.not_valid)
+look s a = cond (valid s) (read s.n a) (Err R.NotValid)
 
 abbrev pub step_with : State → Decoded → Result
-step_with s (Refused k) = refuses s k
-step_with s (Accepted m) = play s m
+step_with s (Err k) = refuses s (number_of k)
+step_with s (Ok m) = play s m
 
 unfoldable pub step : State → Action → Result
 step s a = step_with s (look s a)

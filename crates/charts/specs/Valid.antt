@@ -1,14 +1,10 @@
 -- Number 12: which states may be handed in. Only the phase and the nodes below n are looked at.
-use Rattle.std.specs.Prelude.{Bool, true, ◌&&◌, not, ℕ, eqb, ltb}
-use Rattle.charts.specs.declared.Seen.{Seen}
-use Rattle.charts.specs.declared.Seen.TheVariants as Sn
+use Rattle.std.specs.Prelude.{Bool, true, ◌&&◌, not, ℕ, eqb, ltb, None, Option, Some}
 use Rattle.charts.specs.declared.Mode.{Mode}
 use Rattle.charts.specs.declared.Mode.TheVariants.{Rest, AwaitAck, AckBody, AckEnd, Opened, Addressed, HeadOwn, HeadAll, BodyOwn, BodyAll, TailOwn, TailAll, Wait, Owed, Sending, Told, Answering, Acking, Holding, Spurious, Listening, Asked}
 use Rattle.charts.specs.declared.Signal.{Signal}
 use Rattle.charts.specs.declared.Signal.TheVariants.{Start, End, Prefix, Gap, Dhead, Dest, Header, Data, Ack}
 use Rattle.charts.specs.declared.Packet.{Packet}
-use Rattle.charts.specs.declared.Buffer.{Buffer}
-use Rattle.charts.specs.declared.Buffer.TheVariants.{Empty, Full}
 use Rattle.charts.specs.declared.Phase.{Phase}
 use Rattle.charts.specs.declared.Phase.TheVariants.{Idle, Busy, Delivering, Granting, Gapping}
 use Rattle.charts.specs.declared.Cell.{Cell}
@@ -23,9 +19,9 @@ is_size n = ltb 1 n && ltb n 64
 abbrev pub is_ack : ℕ → Bool
 is_ack a = ltb a 16
 
-abbrev pub seen_fits : Seen → Bool
-seen_fits (Sn.Ack a) = is_ack a
-seen_fits Sn.Nothing = true
+abbrev pub seen_fits : Option ℕ → Bool
+seen_fits (Some a) = is_ack a
+seen_fits None = true
 
 -- "a step of Sending over 5 or of Acking over 2"; request 3: "A state handed in that holds a label over 63", in a header that a mode remembers, in a packet or in the Header under way
 unfoldable pub mode_fits : Mode → Bool
@@ -56,9 +52,9 @@ mode_fits Asked = true
 abbrev pub packet_fits : ℕ → Packet → Bool
 packet_fits n p = is_address n p.to && is_label p.head.label
 
-abbrev pub buffer_fits : ℕ → Buffer → Bool
-buffer_fits n Empty = true
-buffer_fits n (Full p) = packet_fits n p
+abbrev pub buffer_fits : ℕ → Option Packet → Bool
+buffer_fits n None = true
+buffer_fits n (Some p) = packet_fits n p
 
 unfoldable pub cell_fits : ℕ → Cell → Bool
 cell_fits n c = mode_fits c.mode && (buffer_fits n c.buffer && packet_fits n c.sending)

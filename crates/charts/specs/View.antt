@@ -1,20 +1,21 @@
 -- The code's bus record, seen as a state of the charts.
-use Rattle.std.specs.Prelude.{Bool, false, List, ◌≡◌, ℕ, get_or, length}
+use Rattle.std.specs.Prelude.{Bool, false, List, ◌≡◌, ℕ, get_or, length, None, Result, Ok, Err}
 use Rattle.charts.specs.declared.Mode.TheVariants.{Rest}
-use Rattle.charts.specs.declared.Buffer.TheVariants.{Empty}
 use Rattle.charts.specs.declared.Node.{Node}
 use Rattle.charts.specs.declared.Cell.{Cell}
 use Rattle.charts.specs.declared.Bus.{Bus}
 use Rattle.charts.specs.declared.Played.{Played}
 use Rattle.charts.specs.declared.Begun.{Begun}
 use Rattle.charts.specs.declared.User.{User}
-use Rattle.charts.specs.declared.Users.{Users}
+use Rattle.charts.specs.declared.Refusal.{Refusal}
+use Rattle.charts.specs.declared.Report.{Report}
 use Rattle.charts.specs.declared.Report.TheVariants.{Silent}
 use Rattle.charts.specs.State.{State, nothing}
-use Rattle.charts.specs.Step.{Result}
+use Rattle.charts.specs.Numbers.{refusal_number, err_number}
+use Rattle.charts.specs.Step as Step
 
 abbrev pub fresh_node : Node
-fresh_node = record { mode = Rest; buffer = Empty; sending = nothing }
+fresh_node = record { mode = Rest; buffer = None; sending = nothing }
 
 -- the mark of node k
 abbrev pub mark : List Bool → ℕ → Bool
@@ -40,13 +41,20 @@ pub record Sized (b : Bus) : Type 0 where
   pub holder_size : length b.holder ≡ 63
   pub misled_size : length b.misled ≡ 63
 
--- what a step and a fresh bus return, seen as the charts' results
-abbrev pub seen : Played → Result
-seen r = record { number = r.number; report = r.report; state = view r.bus }
+-- what a step and a fresh bus return, seen as the charts' results: a refusal by its number, and with no report
+abbrev pub told : Result Report Refusal → Report
+told (Ok r) = r
+told (Err k) = Silent
 
-abbrev pub seen_begun : Begun → Result
-seen_begun r = record { number = r.number; report = Silent; state = view r.bus }
+abbrev pub seen : Played → Step.Result
+seen r = record { number = err_number r.report; report = told r.report; state = view r.bus }
 
--- the users of all nodes, of whom the code has an array for each setting
-unfoldable pub users_of : Users → ℕ → User
-users_of u k = record { spell = get_or u.spell k 0; address = get_or u.address k 0; fillers = get_or u.fillers k 0; hold = mark u.hold k; period = get_or u.period k 0 }
+abbrev pub seen_begun : Begun → Step.Result
+seen_begun r = record { number = refusal_number r.refusal; report = Silent; state = view r.bus }
+
+-- the users of all nodes; past the last place of an array there is one that asks for nothing
+abbrev pub no_user : User
+no_user = record { spell = 0; address = 0; fillers = 0; hold = false; period = 0 }
+
+unfoldable pub users_of : List User → ℕ → User
+users_of u k = get_or u k no_user

@@ -1,8 +1,67 @@
 // The types of the bench: document 01's packets, modes, signals, nodes and bus, its actions and reports.
-// The charts (specs/) and the code of the other crates share them. Nothing here runs.
+// The charts (specs/) and the code of the other crates share them. All that runs here gives a refusal or a kind its number.
 #![tactic(auto)]
 
+ghost use Rattle.std.specs.Prelude.{◌≡◌};
+ghost use Rattle.charts.specs.Numbers.{number_of};
+ghost use Rattle.charts.specs.Kinds.{kind_number};
+
 pub mod words;
+
+// Why something is refused, in the order of the numbers. An action record is looked at by 2 to 5, 13, 15 and 6, a block by 8, 9, 1 and 11, a file's block by 10 before 11,
+// a state that is handed in by 12; 7 is an action that is not open, 14 a search that is too deep.
+#[derive(Clone, Copy, PartialEq, Eq)]
+pub enum Refusal {
+    WrongSize = 1,
+    WrongKind,
+    StrayField,
+    WrongNode,
+    WrongAddress,
+    WrongAnswer,
+    NotOpen,
+    WrongLength,
+    WrongCheck,
+    WrongOrder,
+    WrongCount,
+    NotValid,
+    WrongLabel,
+    TooDeep,
+    ToItself,
+}
+
+impl Refusal {
+    // The number that is printed, 1 to 15.
+    pub fn number(self) -> u8
+        ensures { result ≡ number_of self }
+    {
+        self as u8
+    }
+}
+
+// The kinds of actions, by the byte that a record has for each. (The record's own byte may be any: another one is refused.)
+#[derive(Clone, Copy, PartialEq, Eq)]
+pub enum Kind {
+    Request = 1,
+    Arbitrate,
+    Respond,
+    Clock,
+    Pass,
+    Lose,
+    Change,
+    Grant,
+    Gap,
+    Reset,
+    Ask,
+    Decide,
+}
+
+impl Kind {
+    pub fn number(self) -> u8
+        ensures { result ≡ kind_number self }
+    {
+        self as u8
+    }
+}
 
 // What a Header signal carries, and what stays of it in packets, modes and reports: the header and the packet's transaction label, which
 // "travels with the packet through buffer, sending and reception, on the bus inside the Header signal".
@@ -20,35 +79,22 @@ pub struct Packet {
     pub datum: u32,
 }
 
-// What AckEnd remembers: "remembering a if it was a good Ack".
-#[derive(Clone, Copy)]
-pub enum Seen {
-    Ack(u8),
-    Nothing,
-}
-
-// What TailOwn and TailAll remember of the data: the datum if its check was good.
-#[derive(Clone, Copy)]
-pub enum Datum {
-    Good(u32),
-    Bad,
-}
-
-// A node's mode with what that mode remembers, in document 01's order, new modes last.
+// A node's mode with what that mode remembers, in document 01's order, new modes last. AckEnd remembers "a if it was a good Ack", TailOwn and TailAll the datum if its
+// check was good.
 #[derive(Clone, Copy)]
 pub enum Mode {
     Rest,
     AwaitAck,
     AckBody,
-    AckEnd(Seen),
+    AckEnd(Option<u8>),
     Opened,
     Addressed,
     HeadOwn,
     HeadAll,
     BodyOwn(Head),
     BodyAll(Head),
-    TailOwn(Head, Datum),
-    TailAll(Head, Datum),
+    TailOwn(Head, Option<u32>),
+    TailAll(Head, Option<u32>),
     Wait,
     Owed,
     Sending(u8),
@@ -62,7 +108,7 @@ pub enum Mode {
 }
 
 // The modes in which a node reads a packet, by name: a drop names the one that the node left.
-#[derive(Clone, Copy)]
+#[derive(Clone, Copy, PartialEq, Eq)]
 pub enum Reading {
     Opened,
     Addressed,
@@ -88,18 +134,11 @@ pub enum Signal {
     Ack(u8, bool),
 }
 
-// "its buffer (one packet or empty)"
-#[derive(Clone, Copy)]
-pub enum Buffer {
-    Empty,
-    Full(Packet),
-}
-
-// A node's record: its mode, its buffer and the packet it is sending.
+// A node's record: its mode, "its buffer (one packet or empty)" and the packet it is sending.
 #[derive(Clone, Copy)]
 pub struct Node {
     pub mode: Mode,
-    pub buffer: Buffer,
+    pub buffer: Option<Packet>,
     pub sending: Packet,
 }
 
@@ -135,7 +174,7 @@ pub struct Bus {
 #[derive(Clone, Copy)]
 pub struct Cell {
     pub mode: Mode,
-    pub buffer: Buffer,
+    pub buffer: Option<Packet>,
     pub sending: Packet,
     pub won: bool,
     pub pending: bool,
@@ -201,7 +240,7 @@ pub enum Arrival {
 
 // The marks that an action changes beyond its own node's: a Start clears the misled ones of all nodes, a reset the won ones;
 // the Prefix that closes an acknowledgement sets the bus's own mark, and the Gap that makes the bus Idle clears it.
-#[derive(Clone, Copy)]
+#[derive(Clone, Copy, PartialEq, Eq)]
 pub enum Marking {
     Nothing,
     Misled,
@@ -239,25 +278,17 @@ pub enum Move {
     Decide(u8),
 }
 
-// An action record looked at: the action, or the number of its refusal.
-#[derive(Clone, Copy)]
-pub enum Decoded {
-    Refused(u8),
-    Accepted(Move),
-}
-
-// What a step returns: 0 or the number of its refusal, its report and the bus.
+// What a step returns: its report or its refusal, and the bus, which a refusal leaves as it was.
 #[derive(Clone, Copy)]
 pub struct Played {
-    pub number: u8,
-    pub report: Report,
+    pub report: Result<Report, Refusal>,
     pub bus: Bus,
 }
 
-// What a fresh bus is asked for returns: 0 or the number of its refusal, and the bus.
+// What a fresh bus is asked for returns: its refusal, if it is refused, and the bus.
 #[derive(Clone, Copy)]
 pub struct Begun {
-    pub number: u8,
+    pub refusal: Option<Refusal>,
     pub bus: Bus,
 }
 
@@ -272,15 +303,8 @@ pub struct User {
     pub period: u8,
 }
 
-// The settings of all nodes, one array for each; those of nodes from n on are not read.
-#[derive(Clone, Copy)]
-pub struct Users {
-    pub spell: [u8; 63],
-    pub address: [u8; 63],
-    pub fillers: [u8; 63],
-    pub hold: [bool; 63],
-    pub period: [u8; 63],
-}
+// The settings of all nodes; those of nodes from n on are not read.
+pub type Users = [User; 63];
 
 // The four numbers that a trial keeps for a user: what is left of its spell, the signals counted towards the next loss, the fillers made for the answer that it owes,
 // and its requests so far.
@@ -304,7 +328,7 @@ pub struct Tally {
 }
 
 // A report's kind: its first word.
-#[derive(Clone, Copy)]
+#[derive(Clone, Copy, PartialEq, Eq)]
 pub enum Word {
     Won,
     Lost,
@@ -324,12 +348,12 @@ pub struct Question {
     pub node: u8,
 }
 
-// What a search for a route answers: 0 or the number of its refusal; whether there is a route, and that route's records with their count. The other places
-// hold records of zeros.
+// A route: how many records it has, and these. The other places hold records of zeros.
 #[derive(Clone, Copy)]
-pub struct Answer {
-    pub number: u8,
-    pub found: bool,
+pub struct Route {
     pub count: u8,
     pub actions: [Action; 6],
 }
+
+// What a search for a route answers: the route, if there is one, or why it is refused.
+pub type Answer = Result<Option<Route>, Refusal>;

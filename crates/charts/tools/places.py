@@ -3,8 +3,8 @@
 its place and what it remembers). Run it and paste when a mode is added (specs/Modes.antt has the order)."""
 import sys
 
-MODES = [("Rest", ""), ("AwaitAck", ""), ("AckBody", ""), ("AckEnd", "(Sn.Ack a)"), ("AckEnd", "Sn.Nothing"), ("Opened", ""), ("Addressed", ""), ("HeadOwn", ""),
-         ("HeadAll", ""), ("BodyOwn", "h"), ("BodyAll", "h"), ("TailOwn", "h (D.Good d)"), ("TailOwn", "h D.Bad"), ("TailAll", "h (D.Good d)"), ("TailAll", "h D.Bad"),
+MODES = [("Rest", ""), ("AwaitAck", ""), ("AckBody", ""), ("AckEnd", "(Some a)"), ("AckEnd", "None"), ("Opened", ""), ("Addressed", ""), ("HeadOwn", ""),
+         ("HeadAll", ""), ("BodyOwn", "h"), ("BodyAll", "h"), ("TailOwn", "h (Some d)"), ("TailOwn", "h None"), ("TailAll", "h (Some d)"), ("TailAll", "h None"),
          ("Wait", ""), ("Owed", ""), ("Sending", "k"), ("Told", ""), ("Answering", ""), ("Acking", "k a b"), ("Holding", ""), ("Spurious", ""), ("Listening", ""), ("Asked", "")]
 # AckEnd, TailOwn and TailAll count as two: what the second part of the mode has, where the letter stands in it
 WHOLE = {"AckEnd": "x", "TailOwn": "h x", "TailAll": "h x"}
