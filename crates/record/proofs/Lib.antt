@@ -1,4 +1,3 @@
 pub mod Little
 pub mod Round
 pub mod Walk
-pub mod Clean

@@ -1,13 +1,16 @@
 -- Numbers as bytes, for every width, and bytes stored one after the other. Assumes nothing.
-use mathlib.Core.Path.{◌≡◌, refl, sym, ap, ◌∙◌}
+use mathlib.Core.Path.{◌≡◌, refl, sym, ap, ap₂, ◌∙◌}
 use mathlib.Core.Bool.{true}
 use mathlib.Core.List.{List, [], ◌∷◌, ◌++◌}
 use Prim.Native.Nat.{ℕ, zero, suc, ◌+◌, ◌*◌, ◌-◌, ◌/◌, ◌%◌, ◌<◌, ◌≤◌}
 use native.Mathlib.Omega.{arith}
 use lib.ListN.{length, set}
-use lib.Seq.{sets, sets-eq}
+use lib.Seq.{sets, sets-eq, take_all}
+use borrow.Rule.Slice.PartMut.{put_mid}
+use Rattle.std.proofs.lemmas.Slice.{put_mid-paste}
 use borrow.Author.Tests.{leb-true}
-use Rattle.charts.specs.Layout.{little, value, bound}
+use Rattle.charts.specs.declared.Action.{Action}
+use Rattle.charts.specs.Layout.{little, value, bound, bytes_of}
 use Rattle.record.specs.Bytes.{Bytes, has_room, put_at}
 
 -- a number of k bytes is that of its bytes, and a list of bytes is that of its number
@@ -74,3 +77,28 @@ pub store_none : (s : List ℕ) (at i width x : ℕ) → width ≤ i → sets s 
 store_none s at i width x h =
     let w : width - i ≡ 0 = omega arith in
     rw w
+
+-- the four bytes of a number
+pub little_4 : (x : ℕ) → little 4 x ≡ x % 256 ∷ x / 256 % 256 ∷ x / 65536 % 256 ∷ x / 16777216 % 256 ∷ []
+little_4 x =
+    let a : x / 256 / 256 ≡ x / 65536 = omega arith in
+    let b : x / 65536 / 256 ≡ x / 16777216 = omega arith in
+    rw (a, b)
+
+-- bytes copied over a part of a buffer that has room for them
+pub put_copied : (s : List ℕ) (at count : ℕ) (new bytes : List ℕ) → new ≡ bytes → length bytes ≡ count → has_room (length s) at count ≡ true → put_mid at (at + count - at) s new ≡ put_at s at bytes
+unfolding put_at
+put_copied s at count new bytes e n h =
+    let k : count ≡ at + count - at = omega arith in
+    let g : has_room (length s) at (length bytes) ≡ true = rw n h in
+    rw g (put_mid-paste at (at + count - at) s new bytes count e k (sym n) ∙ rw (take_all count bytes (omega arith), n))
+
+-- a record's bytes, its two numbers in bytes
+pub laid_bytes : (a : Action)
+    → a.kind ∷ a.node ∷ a.address ∷ a.ack ∷ a.hold ∷ a.label ∷ a.byte6 ∷ a.byte7
+    ∷ a.header % 256 ∷ a.header / 256 % 256 ∷ a.header / 65536 % 256 ∷ a.header / 16777216 % 256
+    ∷ a.datum % 256 ∷ a.datum / 256 % 256 ∷ a.datum / 65536 % 256 ∷ a.datum / 16777216 % 256 ∷ []
+    ≡ bytes_of a
+unfolding bytes_of
+laid_bytes a =
+    ap₂ (λ (h d : List ℕ). a.kind ∷ a.node ∷ a.address ∷ a.ack ∷ a.hold ∷ a.label ∷ a.byte6 ∷ a.byte7 ∷ (h ++ d)) (sym (little_4 a.header)) (sym (little_4 a.datum))

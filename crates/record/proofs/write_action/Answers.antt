@@ -1,22 +1,13 @@
 use mathlib.Core.Path.{refl, sym, ◌∙◌}
-use native.Mathlib.Omega.{arith}
 use Rattle.charts.specs.Layout.{bytes_of}
-use Rattle.record.proofs.Little.{put_sets}
 use Rattle.record.specs.Bytes.{put_at}
+use Rattle.record.proofs.Little.{put_copied}
 use Rattle.record.proofs.write_action.Goals as goal
 
-pub store_action-requires : goal.store_action-requires
-store_action-requires c = c.has_room.ensures.count_bound c.if-has_room.true
-
-pub overflow_add-result : goal.overflow_add-result
-overflow_add-result c = omega (arith, c.has_room.ensures.count_bound c.if-has_room.true)
-
-pub returns-then-has_room : goal.returns-then-has_room
-unfolding bytes_of
-returns-then-has_room c = let room = sym c.has_room.ensures.value ∙ c.if-has_room.true in
-    record { value = rw room; out_after = c.store_action.ensures ∙ sym (put_sets c.args.out.now c.args.at (bytes_of c.args.a) 16 refl room) }
-
-pub returns : goal.returns
+pub returns-then-not-has_room-clause-out_after : goal.returns-then-not-has_room-clause-out_after
 unfolding put_at bytes_of
-returns c = let none = sym c.has_room.ensures.value ∙ c.if-has_room.false in
-    record { value = rw none; out_after = simp none }
+returns-then-not-has_room-clause-out_after c = simp (sym c.has_room.ensures.value ∙ c.if-not-has_room.true)
+
+pub returns-clause-out_after : goal.returns-clause-out_after
+unfolding bytes_of
+returns-clause-out_after c = put_copied c.args.out.now c.args.at 16 _ (bytes_of c.args.a) (c.copy_from_slice.ensures.after ∙ c.bytes_of.ensures) refl (sym c.has_room.ensures.value ∙ c.if-not-has_room.false)
