@@ -18,7 +18,6 @@ pub mod table;
 fn enter(place: u8, mode: Mode, kept: Kept, s: Signal) -> Mode
     ensures { result ≡ enters place mode kept s }
 {
-    let head = kept.head;
     match place {
         modes::REST => Mode::Rest,
         modes::ACK_BODY => Mode::AckBody,
@@ -30,10 +29,10 @@ fn enter(place: u8, mode: Mode, kept: Kept, s: Signal) -> Mode
         modes::HEAD_ALL => Mode::HeadAll,
         modes::BODY_OWN => Mode::BodyOwn(signals::head_of(s)),
         modes::BODY_ALL => Mode::BodyAll(signals::head_of(s)),
-        modes::TAIL_OWN_GOOD => { Mode::TailOwn(head, Datum::Good(signals::datum_of(s))) }
-        modes::TAIL_OWN_BAD => Mode::TailOwn(head, Datum::Bad),
-        modes::TAIL_ALL_GOOD => { Mode::TailAll(head, Datum::Good(signals::datum_of(s))) }
-        modes::TAIL_ALL_BAD => Mode::TailAll(head, Datum::Bad),
+        modes::TAIL_OWN_GOOD => Mode::TailOwn(kept.head, Datum::Good(signals::datum_of(s))),
+        modes::TAIL_OWN_BAD => Mode::TailOwn(kept.head, Datum::Bad),
+        modes::TAIL_ALL_GOOD => Mode::TailAll(kept.head, Datum::Good(signals::datum_of(s))),
+        modes::TAIL_ALL_BAD => Mode::TailAll(kept.head, Datum::Bad),
         modes::WAIT => Mode::Wait,
         modes::OWED => Mode::Owed,
         modes::TOLD => Mode::Told,
@@ -42,18 +41,18 @@ fn enter(place: u8, mode: Mode, kept: Kept, s: Signal) -> Mode
     }
 }
 
+// (The word stays a number: a cell of the table holds it, and `table::word_in` takes it out.)
 // The report with that first word of node `me`, of the label of the packet that it is sending, of the place of its mode and of what that has kept.
 fn say(word: u8, me: u8, label: u8, place: u8, kept: Kept) -> Report
     ensures { result ≡ says word me label place kept }
 {
-    let head = kept.head;
     match word {
         words::ACK => Report::Acked(me, kept.ack, label),
         words::MISS => Report::Miss(me, label),
         words::DROP => Report::Drop(me, modes::name_at(place)),
-        words::GOOD => Report::Good(me, head, kept.datum),
-        words::DCRC => Report::Dcrc(me, head),
-        words::BROAD => Report::Broad(me, head, kept.datum),
+        words::GOOD => Report::Good(me, kept.head, kept.datum),
+        words::DCRC => Report::Dcrc(me, kept.head),
+        words::BROAD => Report::Broad(me, kept.head, kept.datum),
         _ => Report::Silent,
     }
 }
@@ -61,6 +60,7 @@ fn say(word: u8, me: u8, label: u8, place: u8, kept: Kept) -> Report
 // What node `me` in a mode does with a signal, by a table of the chart: it looks its cell up, and adds what modes remember, the label of the
 // packet that it is sending, and the name of the mode that it leaves.
 // With the chart's own table this is what the chart says (proofs/Reading.antt).
+#[tactic(auto, unfolding(crate::specs::Reading::heard_by))]
 pub fn receive(table: &[u16; 350], me: u8, label: u8, mode: Mode, s: Signal) -> Heard
     ensures { result ≡ heard_by table.now me label mode s }
 {
@@ -68,15 +68,14 @@ pub fn receive(table: &[u16; 350], me: u8, label: u8, mode: Mode, s: Signal) -> 
     let cell = table::cell_at(table, place, signals::class_of(me, s));
     if cell == place as u16 {
         return Heard {
-            mode: mode,
+            mode,
             report: Report::Silent,
             pends: false,
         };
     }
     let kept = modes::remembered(mode);
-    let next = table::place_in(cell);
     Heard {
-        mode: enter(next, mode, kept, s),
+        mode: enter(table::place_in(cell), mode, kept, s),
         report: say(table::word_in(cell), me, label, place, kept),
         pends: table::pends_in(cell),
     }
@@ -92,20 +91,14 @@ fn puts(s: Signal, mode: Mode) -> Output
 fn send(i: u8, step: u8, p: Packet) -> Output
     ensures { result ≡ sends i step p }
 {
-    let head = p.head;
     match step {
         0 => puts(Signal::Start, Mode::Sending(1)),
         1 => puts(Signal::Dhead, Mode::Sending(2)),
         2 => puts(Signal::Dest(p.to), Mode::Sending(3)),
-        3 => puts(Signal::Header(head, true), Mode::Sending(4)),
+        3 => puts(Signal::Header(p.head, true), Mode::Sending(4)),
         4 => puts(Signal::Data(p.datum, true), Mode::Sending(5)),
-        _ => {
-            if p.to == 63 {
-                Output::Puts(Signal::End, Mode::Rest, Report::Sent(i, head.label))
-            } else {
-                puts(Signal::End, Mode::AwaitAck)
-            }
-        }
+        _ if p.to == 63 => Output::Puts(Signal::End, Mode::Rest, Report::Sent(i, p.head.label)),
+        _ => puts(Signal::End, Mode::AwaitAck),
     }
 }
 
@@ -114,59 +107,24 @@ fn acknowledge(step: u8, ack: u8, hold: bool) -> Output
     ensures { result ≡ acks step ack hold }
 {
     match step {
-        0 => puts(
-            Signal::Start,
-            Mode::Acking {
-                step: 1,
-                ack: ack,
-                hold: hold,
-            },
-        ),
-        1 => puts(
-            Signal::Ack(ack, true),
-            Mode::Acking {
-                step: 2,
-                ack: ack,
-                hold: hold,
-            },
-        ),
-        _ => {
-            if hold {
-                puts(Signal::Prefix, Mode::Holding)
-            } else {
-                puts(Signal::End, Mode::Rest)
-            }
-        }
+        0 => puts(Signal::Start, Mode::Acking { step: 1, ack, hold }),
+        1 => puts(Signal::Ack(ack, true), Mode::Acking { step: 2, ack, hold }),
+        _ if hold => puts(Signal::Prefix, Mode::Holding),
+        _ => puts(Signal::End, Mode::Rest),
     }
 }
 
 // What node i puts out when it is clocked.
+#[tactic(auto, unfolding(charts::specs::Outputs::output))]
 pub fn emit(i: u8, mode: Mode, sending: Packet) -> Output
     ensures { result ≡ output i mode sending }
 {
     match mode {
-        Mode::Rest => Output::Nothing,
-        Mode::AwaitAck => Output::Nothing,
-        Mode::AckBody => Output::Nothing,
-        Mode::AckEnd(_) => Output::Nothing,
-        Mode::Opened => Output::Nothing,
-        Mode::Addressed => Output::Nothing,
-        Mode::HeadOwn => Output::Nothing,
-        Mode::HeadAll => Output::Nothing,
-        Mode::BodyOwn(_) => Output::Nothing,
-        Mode::BodyAll(_) => Output::Nothing,
-        Mode::TailOwn(_, _) => Output::Nothing,
-        Mode::TailAll(_, _) => Output::Nothing,
-        Mode::Wait => Output::Nothing,
-        Mode::Owed => Output::Nothing,
         Mode::Sending(step) => send(i, step, sending),
-        Mode::Told => Output::Nothing,
-        Mode::Answering => puts(Signal::Prefix, mode),
+        Mode::Answering | Mode::Holding => puts(Signal::Prefix, mode),
         Mode::Acking { step, ack, hold } => acknowledge(step, ack, hold),
-        Mode::Holding => puts(Signal::Prefix, mode),
         Mode::Spurious => Output::Frees,
-        Mode::Listening => Output::Nothing,
-        Mode::Asked => Output::Nothing,
+        _ => Output::Nothing,
     }
 }
 
@@ -175,15 +133,8 @@ fn pass(misled: bool, s: Signal) -> Signal
     ensures { result ≡ passed misled s }
 {
     match s {
-        Signal::Start => s,
-        Signal::End => s,
-        Signal::Prefix => s,
-        Signal::Gap => s,
-        Signal::Dhead => s,
-        Signal::Dest(_) => s,
-        Signal::Header(h, good) => { if good { Signal::Header(h, !misled) } else { s } }
-        Signal::Data(_, _) => s,
-        Signal::Ack(_, _) => s,
+        Signal::Header(h, good) => Signal::Header(h, good && !misled),
+        _ => s,
     }
 }
 
@@ -192,15 +143,8 @@ fn lose(s: Signal) -> Arrival
     ensures { result ≡ lost s }
 {
     match s {
-        Signal::Start => Arrival::Closed,
-        Signal::End => Arrival::Closed,
-        Signal::Prefix => Arrival::Closed,
-        Signal::Gap => Arrival::Closed,
-        Signal::Dhead => Arrival::Closed,
-        Signal::Dest(_) => Arrival::Closed,
-        Signal::Header(_, _) => Arrival::Lost,
-        Signal::Data(_, _) => Arrival::Lost,
-        Signal::Ack(_, _) => Arrival::Lost,
+        Signal::Header(..) | Signal::Data(..) | Signal::Ack(..) => Arrival::Lost,
+        _ => Arrival::Closed,
     }
 }
 
@@ -209,43 +153,16 @@ fn change(address: u8, s: Signal) -> Arrival
     ensures { result ≡ changed address s }
 {
     match s {
-        Signal::Start => Arrival::Closed,
-        Signal::End => Arrival::Closed,
-        Signal::Prefix => Arrival::Closed,
-        Signal::Gap => Arrival::Closed,
-        Signal::Dhead => Arrival::Closed,
-        Signal::Dest(a) => {
-            if a == address {
-                Arrival::Closed
-            } else {
-                Arrival::Hears(Signal::Dest(address), true)
-            }
-        }
-        Signal::Header(h, _) => {
-            if address == 0 {
-                Arrival::Hears(Signal::Header(h, false), false)
-            } else {
-                Arrival::Closed
-            }
-        }
-        Signal::Data(d, _) => {
-            if address == 0 {
-                Arrival::Hears(Signal::Data(d, false), false)
-            } else {
-                Arrival::Closed
-            }
-        }
-        Signal::Ack(a, _) => {
-            if address == 0 {
-                Arrival::Hears(Signal::Ack(a, false), false)
-            } else {
-                Arrival::Closed
-            }
-        }
+        Signal::Dest(a) if a != address => Arrival::Hears(Signal::Dest(address), true),
+        Signal::Header(h, _) if address == 0 => Arrival::Hears(Signal::Header(h, false), false),
+        Signal::Data(d, _) if address == 0 => Arrival::Hears(Signal::Data(d, false), false),
+        Signal::Ack(a, _) if address == 0 => Arrival::Hears(Signal::Ack(a, false), false),
+        _ => Arrival::Closed,
     }
 }
 
 // What arrives of a signal at a node with its misled mark: kinds 5, 6 and 7.
+#[tactic(auto, unfolding(charts::specs::Arrivals::arrives))]
 pub fn arrive(way: Way, misled: bool, s: Signal) -> Arrival
     ensures { result ≡ arrives way misled s }
 {

@@ -1,13 +1,12 @@
 // Modes: their places in the charts' list, what they remember, and the mode of a node that is granted the bus.
 ghost use Rattle.std.specs.Prelude.{◌≡◌};
 ghost use Rattle.charts.specs.Modes.{place_of, name_at, is_rest, is_holding, is_spurious, is_answering, is_acking, is_asked};
-ghost use Rattle.charts.specs.Places.{good_ack, good_datum};
 ghost use Rattle.charts.specs.Actions.{granted};
 ghost use Rattle.link.specs.Reading.{remembered};
 
 use charts::{Datum, Head, Mode, Reading, Seen};
 
-// The places of the modes in document 01's list, the good one of two first, new modes last.
+// The places of the modes in the charts' list, the good one of two first, new modes last. They stay numbers: they index the table's cells, and `rules::rule` answers for every byte.
 pub(crate) const REST: u8 = 0;
 
 pub(crate) const AWAIT_ACK: u8 = 1;
@@ -66,34 +65,24 @@ pub(crate) fn place_of(mode: Mode) -> u8
         Mode::Rest => REST,
         Mode::AwaitAck => AWAIT_ACK,
         Mode::AckBody => ACK_BODY,
-        Mode::AckEnd(seen) => match seen {
-            Seen::Ack(_) => ACK_GOOD,
-            Seen::Nothing => ACK_NONE,
-        },
+        Mode::AckEnd(Seen::Ack(_)) => ACK_GOOD,
+        Mode::AckEnd(Seen::Nothing) => ACK_NONE,
         Mode::Opened => OPENED,
         Mode::Addressed => ADDRESSED,
         Mode::HeadOwn => HEAD_OWN,
         Mode::HeadAll => HEAD_ALL,
         Mode::BodyOwn(_) => BODY_OWN,
         Mode::BodyAll(_) => BODY_ALL,
-        Mode::TailOwn(_, d) => match d {
-            Datum::Good(_) => TAIL_OWN_GOOD,
-            Datum::Bad => TAIL_OWN_BAD,
-        },
-        Mode::TailAll(_, d) => match d {
-            Datum::Good(_) => TAIL_ALL_GOOD,
-            Datum::Bad => TAIL_ALL_BAD,
-        },
+        Mode::TailOwn(_, Datum::Good(_)) => TAIL_OWN_GOOD,
+        Mode::TailOwn(_, Datum::Bad) => TAIL_OWN_BAD,
+        Mode::TailAll(_, Datum::Good(_)) => TAIL_ALL_GOOD,
+        Mode::TailAll(_, Datum::Bad) => TAIL_ALL_BAD,
         Mode::Wait => WAIT,
         Mode::Owed => OWED,
         Mode::Sending(_) => SENDING,
         Mode::Told => TOLD,
         Mode::Answering => ANSWERING,
-        Mode::Acking {
-            step: _,
-            ack: _,
-            hold: _,
-        } => ACKING,
+        Mode::Acking { .. } => ACKING,
         Mode::Holding => HOLDING,
         Mode::Spurious => SPURIOUS,
         Mode::Listening => LISTENING,
@@ -102,6 +91,7 @@ pub(crate) fn place_of(mode: Mode) -> u8
 }
 
 // The name of the mode at a place from Opened to TailAll, which says nothing of good or bad data.
+#[tactic(auto, unfolding(charts::specs::Modes::name_at))]
 pub(crate) fn name_at(place: u8) -> Reading
     ensures { result ≡ name_at place }
 {
@@ -112,8 +102,7 @@ pub(crate) fn name_at(place: u8) -> Reading
         HEAD_ALL => Reading::HeadAll,
         BODY_OWN => Reading::BodyOwn,
         BODY_ALL => Reading::BodyAll,
-        TAIL_OWN_GOOD => Reading::TailOwn,
-        TAIL_OWN_BAD => Reading::TailOwn,
+        TAIL_OWN_GOOD | TAIL_OWN_BAD => Reading::TailOwn,
         _ => Reading::TailAll,
     }
 }
@@ -121,46 +110,46 @@ pub(crate) fn name_at(place: u8) -> Reading
 pub fn is_rest(mode: Mode) -> bool
     ensures { result ≡ is_rest mode }
 {
-    place_of(mode) == REST
+    matches!(mode, Mode::Rest)
 }
 
 pub fn is_answering(mode: Mode) -> bool
     ensures { result ≡ is_answering mode }
 {
-    place_of(mode) == ANSWERING
+    matches!(mode, Mode::Answering)
 }
 
 pub fn is_acking(mode: Mode) -> bool
     ensures { result ≡ is_acking mode }
 {
-    place_of(mode) == ACKING
+    matches!(mode, Mode::Acking { .. })
 }
 
 pub fn is_holding(mode: Mode) -> bool
     ensures { result ≡ is_holding mode }
 {
-    place_of(mode) == HOLDING
+    matches!(mode, Mode::Holding)
 }
 
 pub fn is_spurious(mode: Mode) -> bool
     ensures { result ≡ is_spurious mode }
 {
-    place_of(mode) == SPURIOUS
+    matches!(mode, Mode::Spurious)
 }
 
 pub fn is_asked(mode: Mode) -> bool
     ensures { result ≡ is_asked mode }
 {
-    place_of(mode) == ASKED
+    matches!(mode, Mode::Asked)
 }
 
 // "Told → Answering, Owed → Spurious, another mode kept"
 pub fn granted(mode: Mode) -> Mode
     ensures { result ≡ granted mode }
 {
-    match place_of(mode) {
-        TOLD => Mode::Answering,
-        OWED => Mode::Spurious,
+    match mode {
+        Mode::Told => Mode::Answering,
+        Mode::Owed => Mode::Spurious,
         _ => mode,
     }
 }
@@ -173,68 +162,27 @@ pub struct Kept {
     pub datum: u32,
 }
 
-fn remembers(ack: u8, head: Head, datum: u32) -> Kept
-    ensures { result ≡ record { ack = ack; head = head; datum = datum } }
-{
-    Kept {
-        ack: ack,
-        head: head,
-        datum: datum,
-    }
-}
-
-// The acknowledgement of a good Ack, and the datum of good data; else 0.
-fn good_ack(seen: Seen) -> u8
-    ensures { result ≡ good_ack seen }
-{
-    match seen {
-        Seen::Ack(a) => a,
-        Seen::Nothing => 0,
-    }
-}
-
-fn good_datum(d: Datum) -> u32
-    ensures { result ≡ good_datum d }
-{
-    match d {
-        Datum::Good(x) => x,
-        Datum::Bad => 0,
-    }
-}
-
 pub(crate) fn remembered(mode: Mode) -> Kept
     ensures { result ≡ remembered mode }
 {
-    let none = Head {
-        header: 0,
-        label: 0,
+    let none = Kept {
+        ack: 0,
+        head: Head {
+            header: 0,
+            label: 0,
+        },
+        datum: 0,
     };
     match mode {
-        Mode::Rest => remembers(0, none, 0),
-        Mode::AwaitAck => remembers(0, none, 0),
-        Mode::AckBody => remembers(0, none, 0),
-        Mode::AckEnd(seen) => remembers(good_ack(seen), none, 0),
-        Mode::Opened => remembers(0, none, 0),
-        Mode::Addressed => remembers(0, none, 0),
-        Mode::HeadOwn => remembers(0, none, 0),
-        Mode::HeadAll => remembers(0, none, 0),
-        Mode::BodyOwn(h) => remembers(0, h, 0),
-        Mode::BodyAll(h) => remembers(0, h, 0),
-        Mode::TailOwn(h, d) => remembers(0, h, good_datum(d)),
-        Mode::TailAll(h, d) => remembers(0, h, good_datum(d)),
-        Mode::Wait => remembers(0, none, 0),
-        Mode::Owed => remembers(0, none, 0),
-        Mode::Sending(_) => remembers(0, none, 0),
-        Mode::Told => remembers(0, none, 0),
-        Mode::Answering => remembers(0, none, 0),
-        Mode::Acking {
-            step: _,
-            ack,
-            hold: _,
-        } => remembers(ack, none, 0),
-        Mode::Holding => remembers(0, none, 0),
-        Mode::Spurious => remembers(0, none, 0),
-        Mode::Listening => remembers(0, none, 0),
-        Mode::Asked => remembers(0, none, 0),
+        Mode::AckEnd(Seen::Ack(ack)) => Kept { ack, ..none },
+        Mode::BodyOwn(head) | Mode::BodyAll(head) => Kept { head, ..none },
+        Mode::TailOwn(head, Datum::Good(datum)) | Mode::TailAll(head, Datum::Good(datum)) => Kept {
+            head,
+            datum,
+            ..none
+        },
+        Mode::TailOwn(head, Datum::Bad) | Mode::TailAll(head, Datum::Bad) => Kept { head, ..none },
+        Mode::Acking { ack, .. } => Kept { ack, ..none },
+        _ => none,
     }
 }

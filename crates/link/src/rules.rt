@@ -11,8 +11,8 @@ fn tells(place: u8, word: u8) -> Entry
     ensures { result ≡ tells place word }
 {
     Entry {
-        place: place,
-        word: word,
+        place,
+        word,
         pends: false,
     }
 }
@@ -29,7 +29,7 @@ fn drops(place: u8) -> Entry
     tells(place, words::DROP)
 }
 
-// The cell of a mode's place and a signal's class. Start, End and Prefix are the line signals other than Gap, classes 0 to 2.
+// The cell of a mode's place and a signal's class. Start, End and Prefix are the line signals other than Gap.
 pub fn rule(place: u8, class: u8) -> Entry
     ensures { result ≡ entry place class }
 {
@@ -46,7 +46,7 @@ pub fn rule(place: u8, class: u8) -> Entry
         },
         modes::ACK_BODY => match class {
             signals::GAP => tells(modes::REST, words::MISS),
-            0..=2 => tells(modes::WAIT, words::MISS),
+            signals::START | signals::END | signals::PREFIX => tells(modes::WAIT, words::MISS),
             signals::ACK_GOOD => goes(modes::ACK_GOOD),
             _ => goes(modes::ACK_NONE),
         },
@@ -62,7 +62,7 @@ pub fn rule(place: u8, class: u8) -> Entry
         },
         modes::OPENED => match class {
             signals::GAP => goes(modes::REST),
-            0..=2 => drops(modes::WAIT),
+            signals::START | signals::END | signals::PREFIX => drops(modes::WAIT),
             _ => goes(modes::ADDRESSED),
         },
         modes::ADDRESSED => match class {
@@ -97,20 +97,20 @@ pub fn rule(place: u8, class: u8) -> Entry
             _ => drops(modes::WAIT),
         },
         modes::TAIL_OWN_GOOD => match class {
-            1..=2 => tells(modes::TOLD, words::GOOD),
+            signals::END | signals::PREFIX => tells(modes::TOLD, words::GOOD),
             _ => drops(modes::OWED),
         },
         modes::TAIL_OWN_BAD => match class {
-            1..=2 => tells(modes::TOLD, words::DCRC),
+            signals::END | signals::PREFIX => tells(modes::TOLD, words::DCRC),
             _ => drops(modes::OWED),
         },
         modes::TAIL_ALL_GOOD => match class {
-            1..=2 => tells(modes::REST, words::BROAD),
+            signals::END | signals::PREFIX => tells(modes::REST, words::BROAD),
             signals::GAP => goes(modes::REST),
             _ => drops(modes::WAIT),
         },
         modes::TAIL_ALL_BAD => match class {
-            1..=2 => drops(modes::REST),
+            signals::END | signals::PREFIX => drops(modes::REST),
             signals::GAP => goes(modes::REST),
             _ => drops(modes::WAIT),
         },
@@ -118,19 +118,20 @@ pub fn rule(place: u8, class: u8) -> Entry
             signals::GAP => goes(modes::REST),
             _ => goes(modes::WAIT),
         },
-        modes::OWED => goes(modes::OWED),
-        modes::SENDING => goes(modes::SENDING),
-        modes::TOLD => goes(modes::TOLD),
-        modes::ANSWERING => goes(modes::ANSWERING),
-        modes::ACKING => goes(modes::ACKING),
-        modes::HOLDING => goes(modes::HOLDING),
+        modes::OWED
+        | modes::SENDING
+        | modes::TOLD
+        | modes::ANSWERING
+        | modes::ACKING
+        | modes::HOLDING
+        | modes::SPURIOUS
+        | modes::ASKED => goes(place),
         modes::LISTENING => match class {
             signals::START => goes(modes::OPENED),
             signals::PREFIX => goes(modes::LISTENING),
             signals::GAP => goes(modes::REST),
             _ => goes(modes::WAIT),
         },
-        modes::ASKED => goes(modes::ASKED),
         _ => goes(modes::SPURIOUS),
     }
 }

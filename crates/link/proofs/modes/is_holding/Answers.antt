@@ -1,4 +1,0 @@
-use Rattle.link.proofs.modes.is_holding.Goals as goal
-
-pub returns : goal.returns
-returns c = simp c.place_of.ensures

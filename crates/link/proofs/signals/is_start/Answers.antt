@@ -1,4 +1,0 @@
-use Rattle.link.proofs.signals.is_start.Goals as goal
-
-pub returns : goal.returns
-returns c = simp c.kind_of.ensures
