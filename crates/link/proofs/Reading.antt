@@ -4,8 +4,7 @@ use Prim.Native.Nat.{ℕ, ◌<◌}
 use lib.Dec.{T, eqb}
 use lib.ListN.{get_or}
 use borrow.Author.Tests.{eqb-true}
-use Rattle.charts.specs.declared.Seen.TheVariants as Sn
-use Rattle.charts.specs.declared.Datum.TheVariants as D
+use Rattle.std.specs.Prelude.{None, Some}
 use Rattle.charts.specs.declared.Mode.{Mode}
 use Rattle.charts.specs.declared.Mode.TheVariants.{Rest, AwaitAck, AckBody, AckEnd, Opened, Addressed, HeadOwn, HeadAll, BodyOwn, BodyAll, TailOwn, TailAll, Wait, Owed, Sending, Told, Answering, Acking, Holding, Spurious, Listening, Asked}
 use Rattle.charts.specs.declared.Signal.{Signal}
@@ -46,18 +45,18 @@ kept me label m c s = go m
     go Rest = pick (Kept Rest) (eqb c S.start) _ _ refl refl
     go AwaitAck = pick (Kept AwaitAck) (eqb c S.prefix) _ _ refl (pick (Kept AwaitAck) (eqb c S.start) _ _ refl (pick (Kept AwaitAck) (eqb c S.gap) _ _ refl refl))
     go AckBody = pick (Kept AckBody) (eqb c S.gap) _ _ refl (pick (Kept AckBody) (is_line c) _ _ refl (pick (Kept AckBody) (eqb c S.ack_good) _ _ refl refl))
-    go (AckEnd (Sn.Ack a)) = let K = Kept (AckEnd (Sn.Ack a)) in pick K (eqb c S.end) _ _ refl (pick K (eqb c S.prefix) _ _ refl (pick K (eqb c S.gap) _ _ refl refl))
-    go (AckEnd Sn.Nothing) = pick (Kept (AckEnd Sn.Nothing)) (eqb c S.gap) _ _ refl refl
+    go (AckEnd (Some a)) = let K = Kept (AckEnd (Some a)) in pick K (eqb c S.end) _ _ refl (pick K (eqb c S.prefix) _ _ refl (pick K (eqb c S.gap) _ _ refl refl))
+    go (AckEnd None) = pick (Kept (AckEnd None)) (eqb c S.gap) _ _ refl refl
     go Opened = pick (Kept Opened) (eqb c S.gap) _ _ refl (pick (Kept Opened) (is_line c) _ _ refl refl)
     go Addressed = let K = Kept Addressed in pick K (eqb c S.dest_own) _ _ refl (pick K (eqb c S.dest_all) _ _ refl (pick K (eqb c S.dest_other) _ _ refl (pick K (eqb c S.gap) _ _ refl refl)))
     go HeadOwn = pick (Kept HeadOwn) (eqb c S.header_good) _ _ refl refl
     go HeadAll = pick (Kept HeadAll) (eqb c S.header_good) _ _ refl (pick (Kept HeadAll) (eqb c S.gap) _ _ refl refl)
     go (BodyOwn h) = pick (Kept (BodyOwn h)) (eqb c S.data_good) _ _ refl (pick (Kept (BodyOwn h)) (eqb c S.data_bad) _ _ refl refl)
     go (BodyAll h) = let K = Kept (BodyAll h) in pick K (eqb c S.data_good) _ _ refl (pick K (eqb c S.data_bad) _ _ refl (pick K (eqb c S.gap) _ _ refl refl))
-    go (TailOwn h (D.Good d)) = pick (Kept (TailOwn h (D.Good d))) (closes c) _ _ refl refl
-    go (TailOwn h D.Bad) = pick (Kept (TailOwn h D.Bad)) (closes c) _ _ refl refl
-    go (TailAll h (D.Good d)) = let K = Kept (TailAll h (D.Good d)) in pick K (closes c) _ _ refl (pick K (eqb c S.gap) _ _ refl refl)
-    go (TailAll h D.Bad) = let K = Kept (TailAll h D.Bad) in pick K (closes c) _ _ refl (pick K (eqb c S.gap) _ _ refl refl)
+    go (TailOwn h (Some d)) = pick (Kept (TailOwn h (Some d))) (closes c) _ _ refl refl
+    go (TailOwn h None) = pick (Kept (TailOwn h None)) (closes c) _ _ refl refl
+    go (TailAll h (Some d)) = let K = Kept (TailAll h (Some d)) in pick K (closes c) _ _ refl (pick K (eqb c S.gap) _ _ refl refl)
+    go (TailAll h None) = let K = Kept (TailAll h None) in pick K (closes c) _ _ refl (pick K (eqb c S.gap) _ _ refl refl)
     go Wait = pick (Kept Wait) (eqb c S.gap) _ _ refl refl
     go Owed = refl
     go (Sending k) = refl

@@ -1,7 +1,5 @@
 -- The reception chart's table as numbers, and what a node does with a signal by such a table.
-use Rattle.std.specs.Prelude.{Bool, cond, List, ℕ, ◌+◌, ◌*◌, ◌/◌, ◌%◌, eqb, leb, get_or}
-use Rattle.charts.specs.declared.Seen.TheVariants as Sn
-use Rattle.charts.specs.declared.Datum.TheVariants as D
+use Rattle.std.specs.Prelude.{Bool, cond, Some, None, List, ℕ, ◌+◌, ◌*◌, ◌/◌, ◌%◌, eqb, leb, get_or}
 use Rattle.charts.specs.declared.Mode.{Mode}
 use Rattle.charts.specs.declared.Mode.TheVariants.{Rest, AckBody, AckEnd, Opened, Addressed, HeadOwn, HeadAll, BodyOwn, BodyAll, TailOwn, TailAll, Wait, Owed, Told, Listening}
 use Rattle.charts.specs.declared.Signal.{Signal}
@@ -50,18 +48,18 @@ abbrev pub enters : ℕ → Mode → Kept → Signal → Mode
 enters p m k s =
     cond (eqb p P.rest) Rest
     (cond (eqb p P.ack_body) AckBody
-    (cond (eqb p P.ack_good) (AckEnd (Sn.Ack (ack_of s)))
-    (cond (eqb p P.ack_none) (AckEnd Sn.Nothing)
+    (cond (eqb p P.ack_good) (AckEnd (Some (ack_of s)))
+    (cond (eqb p P.ack_none) (AckEnd None)
     (cond (eqb p P.opened) Opened
     (cond (eqb p P.addressed) Addressed
     (cond (eqb p P.head_own) HeadOwn
     (cond (eqb p P.head_all) HeadAll
     (cond (eqb p P.body_own) (BodyOwn (head_of s))
     (cond (eqb p P.body_all) (BodyAll (head_of s))
-    (cond (eqb p P.tail_own_good) (TailOwn k.head (D.Good (datum_of s)))
-    (cond (eqb p P.tail_own_bad) (TailOwn k.head D.Bad)
-    (cond (eqb p P.tail_all_good) (TailAll k.head (D.Good (datum_of s)))
-    (cond (eqb p P.tail_all_bad) (TailAll k.head D.Bad)
+    (cond (eqb p P.tail_own_good) (TailOwn k.head (Some (datum_of s)))
+    (cond (eqb p P.tail_own_bad) (TailOwn k.head None)
+    (cond (eqb p P.tail_all_good) (TailAll k.head (Some (datum_of s)))
+    (cond (eqb p P.tail_all_bad) (TailAll k.head None)
     (cond (eqb p P.wait) Wait
     (cond (eqb p P.owed) Owed
     (cond (eqb p P.told) Told

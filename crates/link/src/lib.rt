@@ -6,7 +6,7 @@ ghost use Rattle.charts.specs.Outputs.{output, puts, sends, acks};
 ghost use Rattle.charts.specs.Arrivals.{arrives, passed, lost, changed};
 ghost use Rattle.link.specs.Reading.{enters, says, heard_by};
 
-use charts::{Arrival, Datum, Heard, Mode, Output, Packet, Report, Seen, Signal, Way, words};
+use charts::{Arrival, Heard, Mode, Output, Packet, Report, Signal, Way, words};
 use modes::Kept;
 
 pub mod modes;
@@ -21,18 +21,18 @@ fn enter(place: u8, mode: Mode, kept: Kept, s: Signal) -> Mode
     match place {
         modes::REST => Mode::Rest,
         modes::ACK_BODY => Mode::AckBody,
-        modes::ACK_GOOD => Mode::AckEnd(Seen::Ack(signals::ack_of(s))),
-        modes::ACK_NONE => Mode::AckEnd(Seen::Nothing),
+        modes::ACK_GOOD => Mode::AckEnd(Some(signals::ack_of(s))),
+        modes::ACK_NONE => Mode::AckEnd(None),
         modes::OPENED => Mode::Opened,
         modes::ADDRESSED => Mode::Addressed,
         modes::HEAD_OWN => Mode::HeadOwn,
         modes::HEAD_ALL => Mode::HeadAll,
         modes::BODY_OWN => Mode::BodyOwn(signals::head_of(s)),
         modes::BODY_ALL => Mode::BodyAll(signals::head_of(s)),
-        modes::TAIL_OWN_GOOD => Mode::TailOwn(kept.head, Datum::Good(signals::datum_of(s))),
-        modes::TAIL_OWN_BAD => Mode::TailOwn(kept.head, Datum::Bad),
-        modes::TAIL_ALL_GOOD => Mode::TailAll(kept.head, Datum::Good(signals::datum_of(s))),
-        modes::TAIL_ALL_BAD => Mode::TailAll(kept.head, Datum::Bad),
+        modes::TAIL_OWN_GOOD => Mode::TailOwn(kept.head, Some(signals::datum_of(s))),
+        modes::TAIL_OWN_BAD => Mode::TailOwn(kept.head, None),
+        modes::TAIL_ALL_GOOD => Mode::TailAll(kept.head, Some(signals::datum_of(s))),
+        modes::TAIL_ALL_BAD => Mode::TailAll(kept.head, None),
         modes::WAIT => Mode::Wait,
         modes::OWED => Mode::Owed,
         modes::TOLD => Mode::Told,

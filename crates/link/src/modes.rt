@@ -4,7 +4,7 @@ ghost use Rattle.charts.specs.Modes.{place_of, name_at, is_rest, is_holding, is_
 ghost use Rattle.charts.specs.Actions.{granted};
 ghost use Rattle.link.specs.Reading.{remembered};
 
-use charts::{Datum, Head, Mode, Reading, Seen};
+use charts::{Head, Mode, Reading};
 
 // The places of the modes in the charts' list, the good one of two first, new modes last. They stay numbers: they index the table's cells, and `rules::rule` answers for every byte.
 pub(crate) const REST: u8 = 0;
@@ -65,18 +65,18 @@ pub(crate) fn place_of(mode: Mode) -> u8
         Mode::Rest => REST,
         Mode::AwaitAck => AWAIT_ACK,
         Mode::AckBody => ACK_BODY,
-        Mode::AckEnd(Seen::Ack(_)) => ACK_GOOD,
-        Mode::AckEnd(Seen::Nothing) => ACK_NONE,
+        Mode::AckEnd(Some(_)) => ACK_GOOD,
+        Mode::AckEnd(None) => ACK_NONE,
         Mode::Opened => OPENED,
         Mode::Addressed => ADDRESSED,
         Mode::HeadOwn => HEAD_OWN,
         Mode::HeadAll => HEAD_ALL,
         Mode::BodyOwn(_) => BODY_OWN,
         Mode::BodyAll(_) => BODY_ALL,
-        Mode::TailOwn(_, Datum::Good(_)) => TAIL_OWN_GOOD,
-        Mode::TailOwn(_, Datum::Bad) => TAIL_OWN_BAD,
-        Mode::TailAll(_, Datum::Good(_)) => TAIL_ALL_GOOD,
-        Mode::TailAll(_, Datum::Bad) => TAIL_ALL_BAD,
+        Mode::TailOwn(_, Some(_)) => TAIL_OWN_GOOD,
+        Mode::TailOwn(_, None) => TAIL_OWN_BAD,
+        Mode::TailAll(_, Some(_)) => TAIL_ALL_GOOD,
+        Mode::TailAll(_, None) => TAIL_ALL_BAD,
         Mode::Wait => WAIT,
         Mode::Owed => OWED,
         Mode::Sending(_) => SENDING,
@@ -174,14 +174,16 @@ pub(crate) fn remembered(mode: Mode) -> Kept
         datum: 0,
     };
     match mode {
-        Mode::AckEnd(Seen::Ack(ack)) => Kept { ack, ..none },
-        Mode::BodyOwn(head) | Mode::BodyAll(head) => Kept { head, ..none },
-        Mode::TailOwn(head, Datum::Good(datum)) | Mode::TailAll(head, Datum::Good(datum)) => Kept {
-            head,
-            datum,
+        Mode::AckEnd(seen) => Kept {
+            ack: seen.unwrap_or(0),
             ..none
         },
-        Mode::TailOwn(head, Datum::Bad) | Mode::TailAll(head, Datum::Bad) => Kept { head, ..none },
+        Mode::BodyOwn(head) | Mode::BodyAll(head) => Kept { head, ..none },
+        Mode::TailOwn(head, d) | Mode::TailAll(head, d) => Kept {
+            head,
+            datum: d.unwrap_or(0),
+            ..none
+        },
         Mode::Acking { ack, .. } => Kept { ack, ..none },
         _ => none,
     }
