@@ -1,5 +1,4 @@
 pub mod Numbers
-pub mod Kinds
 pub mod Modes
 pub mod Signals
 pub mod Words
@@ -12,6 +11,7 @@ pub mod Arrivals
 pub mod State
 pub mod Actions
 pub mod Records
+pub mod Kinds
 pub mod Layout
 pub mod Valid
 pub mod Step

@@ -4,7 +4,7 @@
 
 ghost use Rattle.std.specs.Prelude.{◌≡◌};
 ghost use Rattle.charts.specs.Numbers.{number_of};
-ghost use Rattle.charts.specs.Kinds.{kind_number};
+ghost use Rattle.charts.specs.Kinds.{kind_number, Reads};
 
 pub mod words;
 
@@ -60,6 +60,30 @@ impl Kind {
         ensures { result ≡ kind_number self }
     {
         self as u8
+    }
+}
+
+impl TryFrom<u8> for Kind {
+    type Error = Refusal;
+
+    ghost try_from_gives = { Reads };
+
+    fn try_from(kind: u8) -> Result<Kind, Refusal> {
+        match kind {
+            1 => Ok(Kind::Request),
+            2 => Ok(Kind::Arbitrate),
+            3 => Ok(Kind::Respond),
+            4 => Ok(Kind::Clock),
+            5 => Ok(Kind::Pass),
+            6 => Ok(Kind::Lose),
+            7 => Ok(Kind::Change),
+            8 => Ok(Kind::Grant),
+            9 => Ok(Kind::Gap),
+            10 => Ok(Kind::Reset),
+            11 => Ok(Kind::Ask),
+            12 => Ok(Kind::Decide),
+            _ => Err(Refusal::WrongKind),
+        }
     }
 }
 

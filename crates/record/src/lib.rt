@@ -2,12 +2,13 @@
 #![tactic(auto)]
 
 ghost use Rattle.std.specs.Prelude.{◌≡◌, true, cond, ◌&&◌, ◌||◌, [], ◌∷◌, ◌+◌, ◌≤◌, length, eqb};
-ghost use Rattle.charts.specs.Records.{is_kind, names_node, names_address, clean, named, is_address, is_own, is_label, move_of, read};
+ghost use Rattle.charts.specs.Records.{names_node, names_address, clean, named, is_address, is_own, is_label, move_of, read};
+ghost use Rattle.charts.specs.Kinds.{kind_number};
 ghost use Rattle.charts.specs.Valid.{is_size};
 ghost use Rattle.charts.specs.Layout.{little, value, bytes_of, action_at};
 ghost use Rattle.record.specs.Bytes.{has_room, put_at};
 
-use charts::{Action, Head, Move, Packet, Refusal, Way};
+use charts::{Action, Head, Kind, Move, Packet, Refusal, Way};
 
 // Whether a bus may have so many nodes.
 pub fn is_size(n: u8) -> bool
@@ -16,23 +17,19 @@ pub fn is_size(n: u8) -> bool
     1 < n && n < 64
 }
 
-// "kind not 1–12" is 2.
-fn is_kind(kind: u8) -> bool
-    ensures { result ≡ is_kind kind }
+fn names_node(kind: Kind) -> bool
+    ensures { result ≡ names_node (kind_number kind) }
 {
-    0 < kind && kind < 13
+    !matches!(
+        kind,
+        Kind::Pass | Kind::Lose | Kind::Change | Kind::Grant | Kind::Gap | Kind::Reset
+    )
 }
 
-fn names_node(kind: u8) -> bool
-    ensures { result ≡ names_node kind }
+fn names_address(kind: Kind) -> bool
+    ensures { result ≡ names_address (kind_number kind) }
 {
-    kind < 5 || 10 < kind
-}
-
-fn names_address(kind: u8) -> bool
-    ensures { result ≡ names_address kind }
-{
-    kind == 1 || kind == 7
+    matches!(kind, Kind::Request | Kind::Change)
 }
 
 fn has_no_answer(a: Action) -> bool
@@ -50,20 +47,23 @@ fn has_no_packet(a: Action) -> bool
 // Whether the fields that the kind doesn't name, and the record's two zeros, are 0; else it is 3.
 // Kind by kind: most kinds name little, and then few tests are left.
 #[tactic(auto, unfolding(charts::specs::Records::clean))]
-fn is_clean(a: Action) -> bool
+fn is_clean(kind: Kind, a: Action) -> bool
+    requires { kind_number kind ≡ a.kind }
     ensures { result ≡ clean a }
 {
     if a.byte6 != 0 || a.byte7 != 0 {
         return false;
     }
-    match a.kind {
-        1 => has_no_answer(a),
-        3 => has_no_packet(a) && a.address == 0,
-        7 => has_no_packet(a) && a.node == 0 && has_no_answer(a),
-        kind => has_no_packet(a)
-            && a.address == 0
-            && (names_node(kind) || a.node == 0)
-            && has_no_answer(a),
+    match kind {
+        Kind::Request => has_no_answer(a),
+        Kind::Respond => has_no_packet(a) && a.address == 0,
+        Kind::Change => has_no_packet(a) && a.node == 0 && has_no_answer(a),
+        _ => {
+            has_no_packet(a)
+                && a.address == 0
+                && (names_node(kind) || a.node == 0)
+                && has_no_answer(a)
+        }
     }
 }
 
@@ -89,11 +89,12 @@ pub fn is_label(label: u8) -> bool
 }
 
 #[tactic(auto, unfolding(charts::specs::Records::move_of))]
-fn move_of(a: Action) -> Move
+fn move_of(kind: Kind, a: Action) -> Move
+    requires { kind_number kind ≡ a.kind }
     ensures { result ≡ move_of a }
 {
-    match a.kind {
-        1 => Move::Request {
+    match kind {
+        Kind::Request => Move::Request {
             node: a.node,
             packet: Packet {
                 to: a.address,
@@ -104,21 +105,21 @@ fn move_of(a: Action) -> Move
                 datum: a.datum,
             },
         },
-        2 => Move::Arbitrate(a.node),
-        3 => Move::Respond {
+        Kind::Arbitrate => Move::Arbitrate(a.node),
+        Kind::Respond => Move::Respond {
             node: a.node,
             ack: a.ack,
             hold: a.hold == 1,
         },
-        4 => Move::Clock(a.node),
-        5 => Move::Carry(Way::Pass),
-        6 => Move::Carry(Way::Lose),
-        7 => Move::Carry(Way::Change(a.address)),
-        8 => Move::Grant,
-        9 => Move::GapNext,
-        10 => Move::Reset,
-        11 => Move::Ask(a.node),
-        _ => Move::Decide(a.node),
+        Kind::Clock => Move::Clock(a.node),
+        Kind::Pass => Move::Carry(Way::Pass),
+        Kind::Lose => Move::Carry(Way::Lose),
+        Kind::Change => Move::Carry(Way::Change(a.address)),
+        Kind::Grant => Move::Grant,
+        Kind::Gap => Move::GapNext,
+        Kind::Reset => Move::Reset,
+        Kind::Ask => Move::Ask(a.node),
+        Kind::Decide => Move::Decide(a.node),
     }
 }
 
@@ -127,11 +128,8 @@ fn move_of(a: Action) -> Move
 pub fn decode(n: u8, a: Action) -> Result<Move, Refusal>
     ensures { result ≡ read n a }
 {
-    let kind = a.kind;
-    if !is_kind(kind) {
-        return Err(Refusal::WrongKind);
-    }
-    if !is_clean(a) {
+    let kind = Kind::try_from(a.kind)?;
+    if !is_clean(kind, a) {
         return Err(Refusal::StrayField);
     }
     if names_node(kind) && !(a.node < n) {
@@ -140,7 +138,7 @@ pub fn decode(n: u8, a: Action) -> Result<Move, Refusal>
     if names_address(kind) && !is_address(n, a.address) {
         return Err(Refusal::WrongAddress);
     }
-    if kind == 1 {
+    if kind == Kind::Request {
         if !is_label(a.label) {
             return Err(Refusal::WrongLabel);
         }
@@ -151,7 +149,7 @@ pub fn decode(n: u8, a: Action) -> Result<Move, Refusal>
     if !(a.ack < 16 && a.hold < 2) {
         return Err(Refusal::WrongAnswer);
     }
-    Ok(move_of(a))
+    Ok(move_of(kind, a))
 }
 
 // A record that names at most a node and an address.
