@@ -2,9 +2,9 @@
 use mathlib.Core.Path.{◌≡◌, refl}
 use mathlib.Core.List.{List, ◌∷◌}
 use Prim.Native.Nat.{ℕ}
-use Rattle.charts.specs.Numbers as N
-use Rattle.runfile.specs.declared.BlockHead.TheVariants.{Holds, Refused}
-use Rattle.runfile.specs.Block.{zeros, check_in, check_of, head_of, count_fits, read_block}
+use Rattle.charts.specs.declared.Refusal.TheVariants.{WrongSize}
+use Rattle.std.specs.Prelude.{Err}
+use Rattle.runfile.specs.Block.{zeros, check_in, check_of, holds, head_of, count_fits, read_block}
 use Rattle.runfile.specs.Sums.{sums_of}
 use Rattle.runfile.specs.Write.{body_of, block_with}
 
@@ -16,7 +16,7 @@ check_h : check_in block_h ≡ 47
 unfolding block_with body_of
 check_h = refl
 
-read_h : read_block block_h ≡ Holds 0 1 2
+read_h : read_block block_h ≡ holds 0 1 2
 unfolding read_block head_of count_fits check_of block_with body_of
 read_h = refl
 
@@ -26,6 +26,6 @@ unfolding sums_of count_fits block_with body_of
 sums_h = refl
 
 -- G: "512 zero bytes"
-read_g : read_block (zeros 512) ≡ Refused N.wrong_size
+read_g : read_block (zeros 512) ≡ Err WrongSize
 unfolding read_block head_of count_fits check_of
 read_g = refl

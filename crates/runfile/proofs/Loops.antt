@@ -1,19 +1,18 @@
 -- A turn and the end of each loop over a block's bytes. Assumes nothing.
-use mathlib.Core.Path.{◌≡◌, refl, subst}
+use mathlib.Core.Path.{◌≡◌, refl}
 use mathlib.Core.Bool.{Bool, true, false, true≢false, ◌&&◌}
 use mathlib.Core.List.{List, [], ◌∷◌}
 use Prim.Native.Nat.{ℕ, suc, ◌+◌, ◌*◌, ◌/◌, ◌%◌, ◌<◌, ◌≤◌}
 use native.Mathlib.Omega.{arith}
 use native.Mathlib.Numerals.{add-one}
-use lib.Dec.{eqb, ltb}
+use lib.Dec.{ltb}
 use lib.ListN.{length, take, drop, get_or, set, drop_of_length-le}
 use lib.Seq.{slice, slice-cons, length-take-le, drop-cons, sets}
 use borrow.Author.Tests.{ltb-true, eqb-true}
-use Rattle.charts.specs.Records.{read}
-use Rattle.charts.specs.declared.Action.{Action}
-use Rattle.charts.specs.declared.Decoded.{Decoded}
-use Rattle.charts.specs.declared.Decoded.TheVariants as D
-use Rattle.charts.proofs.Steps.{Decodes, turned, taken, decodes}
+use Rattle.charts.specs.declared.Refusal.{Refusal}
+use Rattle.charts.specs.Numbers as N
+use Rattle.charts.specs.Numbers.{number_of}
+use Rattle.charts.proofs.Steps.{refuses_it}
 use Rattle.runfile.specs.Block.{is_count}
 use Rattle.runfile.specs.Write.{is_records}
 
@@ -63,10 +62,6 @@ records_all size h =
     let g = eqb-true (size % 16) 0 (and_right (is_count (size / 16)) _ h) in
     omega arith
 
--- no record is refused by 0
-pub never_zero : (n : ℕ) (a : Action) → read n a ≡ D.Refused 0 → ⊥
-never_zero n a = go (decodes n a)
-  where
-    go : {d : Decoded} → Decodes n a d → d ≡ D.Refused 0 → ⊥
-    go (turned {k} e) q = let z : k ≡ 0 = cc in true≢false (subst (λ k. eqb k 0 ≡ false) z e)
-    go (taken x) q = let z : ◌≡◌ {A = ℕ} 0 1 = cc in omega arith
+-- no refusal has the number 0
+pub never_zero : (k : Refusal) → number_of k ≡ N.accepted → ⊥
+never_zero k z = true≢false (rw z at (refuses_it k))

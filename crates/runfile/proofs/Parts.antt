@@ -1,13 +1,16 @@
 -- Lists in parts, and lists of zeros. Assumes nothing.
 use mathlib.Core.Path.{◌≡◌, refl, ap}
-use mathlib.Core.Bool.{true}
+use mathlib.Core.Bool.{Bool, true, false, ◌&&◌}
 use mathlib.Core.List.{List, [], ◌∷◌, ◌++◌}
-use Prim.Native.Nat.{ℕ, zero, suc, ◌+◌, ◌≤◌}
+use Prim.Native.Nat.{ℕ, zero, suc, ◌+◌, ◌<◌, ◌≤◌}
 use native.Mathlib.Omega.{arith}
 use lib.Dec.{eqb}
+use mathlib.Core.Logic.{◌≢◌}
+use Rattle.std.specs.Bool.{MatchBool}
+use Rattle.std.specs.List.{AllWithin, HoldsAt}
 use lib.ListN.{length, take, drop, get_or, take-append-drop}
 use lib.Seq.{take-add, drop_at, length-take-le, get_or-append-add, get_or-drop}
-use borrow.Author.Tests.{eqb-true}
+use borrow.Author.Tests.{eqb-true, eq-eqb, ne_eqb}
 use Rattle.record.specs.Bytes.{Bytes}
 use Rattle.runfile.specs.Block.{zeros, all_zero}
 use Rattle.runfile.proofs.Loops.{and_left, and_right}
@@ -51,3 +54,15 @@ bytes_drop k s h i = rw (get_or-drop k s i 0) (h (k + i))
 
 pub bytes_take : (k : ℕ) (s : List ℕ) → Bytes s → Bytes (take k s)
 bytes_take k s h = bytes_first (take k s) (drop k s) (λ i. rw (take-append-drop k s) (h i))
+
+-- a list of which each element is 0, or one is not
+pub by_all : (l : List ℕ) (b : Bool) → MatchBool b (AllWithin (λ x. x ≡ 0) l 0 (length l)) ((k : ℕ) × (k < length l) × HoldsAt (λ x. x ≢ 0) l k) → b ≡ all_zero l
+by_all [] true m = refl
+by_all [] false m = absurd (omega (arith, m.1))
+by_all (x ∷ l) true m = rw (eq-eqb x 0 (m 0 0 (omega arith) (omega arith))) (by_all l true (λ k d low high. m (suc k) d (omega arith) (omega arith)))
+by_all (x ∷ l) false (zero, low, holds) = rw (ne_eqb x 0 (holds 0))
+by_all (x ∷ l) false (suc k, low, holds) = after (eqb x 0) (by_all l false (k, (omega arith), (λ d. holds d)))
+  where
+    after : (b : Bool) → false ≡ all_zero l → false ≡ (b && all_zero l)
+    after true e = e
+    after false e = refl

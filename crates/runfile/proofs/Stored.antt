@@ -8,7 +8,9 @@ use lib.ListN.{length, take, drop, set, length-append, length-replicate, replica
 use lib.Seq.{sets, sets-eq, length-sets, length-take-le, take_at, drop_at, take-add}
 use Rattle.charts.specs.Layout.{little}
 use Rattle.record.specs.Bytes.{has_room, put_at}
-use Rattle.record.proofs.Little.{put_sets, sets_append}
+use Rattle.record.proofs.Little.{put_sets, put_copied, sets_append}
+use borrow.Rule.Slice.PartMut.{put_mid}
+use borrow.Author.Tests.{le-leb}
 use Rattle.runfile.specs.Block.{weigh, zeros}
 use Rattle.runfile.specs.Write.{head_bytes, body_of}
 use Rattle.runfile.proofs.Sums.{weigh_append, weigh_cut}
@@ -83,3 +85,9 @@ whole_stored s block e =
     let fits : 0 + length block ≤ length s = omega arith in
     let full : length s ≤ 0 + length block = omega arith in
     sets-eq block s 0 fits ∙ rw (drop_of_length-le s full) (append-nil block)
+
+-- bytes copied over a part of a buffer are stored there
+pub copied : (s : List ℕ) (at count : ℕ) (new bytes : List ℕ) → new ≡ bytes → length bytes ≡ count → at + count ≤ length s → put_mid at (at + count - at) s new ≡ sets s at bytes
+copied s at count new bytes e n h =
+    let room = le-leb (at + count) (length s) h in
+    put_copied s at count new bytes e n room ∙ put_sets s at bytes count n room

@@ -12,10 +12,10 @@ use Rattle.charts.specs.Numbers as N
 use Rattle.charts.specs.Valid.{is_size}
 use Rattle.charts.specs.Layout.{little, bound, actions_of}
 use Rattle.record.proofs.Little.{value_little}
-use Rattle.runfile.specs.declared.BlockHead.TheVariants.{Holds}
-use Rattle.runfile.specs.Block.{number_in, count_in, n_in, check_sum, check_of, check_in, is_count, zeros, all_zero, used_end, head_of, count_fits, read_block, used_bytes}
+use Rattle.runfile.specs.Block.{number_in, count_in, n_in, check_sum, check_of, check_in, is_count, zeros, all_zero, used_end, holds, head_of, count_fits, read_block, used_bytes}
 use Rattle.runfile.specs.Sums.{sums_for, sums_of}
-use Rattle.runfile.specs.Write.{is_records, first_refusal, write_number, head_bytes, body_of, sealed, block_with, ReadsBack}
+use Rattle.std.specs.Prelude.{Ok}
+use Rattle.runfile.specs.Write.{Called, is_records, first_refusal, write_number, head_bytes, body_of, sealed, block_with, ReadsBack}
 use Rattle.runfile.proofs.Loops.{and_left, records_small, records_all}
 use Rattle.runfile.proofs.Stored.{body_length}
 use Rattle.runfile.proofs.Parts.{past, zeros_zero}
@@ -96,11 +96,11 @@ module _ (number n : ℕ) (records : List ℕ) (whole : is_records (length recor
     unfolding block_with body_of
     n_written = refl
 
-    head : head_of (block_with number n records) ≡ Holds number (length records / 16) n
+    head : head_of (block_with number n records) ≡ holds number (length records / 16) n
     unfolding head_of
     head = simp (eq-eqb _ _ block_length, eq-eqb _ _ block_check, n_written, size, number_written, count_written)
 
-    pub reads_back : read_block (block_with number n records) ≡ Holds number (length records / 16) n
+    pub reads_back : read_block (block_with number n records) ≡ holds number (length records / 16) n
     unfolding read_block
     reads_back = rw (head, counts)
 
@@ -121,3 +121,8 @@ writer_reads_back size number n records numbers h =
     go true true false eb ec q = absurd (omega arith)
     go true false c eb ec q = absurd (omega arith)
     go false b c eb ec q = absurd (omega arith)
+
+-- what the writer looks at after 8, 1 and 11
+pub called : (size n : ℕ) (records : List ℕ) → Called size n records (Ok tt) → write_number size n records ≡ first_refusal n (actions_of (length records / 16) records)
+unfolding write_number
+called size n records c = simp (eq-eqb size 512 c.0, c.1, c.2)

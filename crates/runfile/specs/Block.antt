@@ -1,11 +1,11 @@
 -- A block of a run file as it is read.
-use Rattle.std.specs.Prelude.{◌≡◌, Bool, true, cond, ◌&&◌, not, List, [], ◌∷◌, ℕ, ◌+◌, ◌*◌, ◌%◌, ◌≤◌, eqb, ltb, length, get_or, take, drop, replicate}
+use Rattle.std.specs.Prelude.{◌≡◌, Bool, true, cond, ◌&&◌, not, List, [], ◌∷◌, ℕ, ◌+◌, ◌*◌, ◌%◌, ◌≤◌, eqb, ltb, length, get_or, take, drop, replicate, Result, Ok, Err}
 use Rattle.std.proofs.Math.Seq.{slice}
-use Rattle.charts.specs.Numbers as N
+use Rattle.charts.specs.declared.Refusal.{Refusal}
+use Rattle.charts.specs.declared.Refusal.TheVariants as R
 use Rattle.charts.specs.Valid.{is_size}
 use Rattle.charts.specs.Layout.{value}
 use Rattle.runfile.specs.declared.BlockHead.{BlockHead}
-use Rattle.runfile.specs.declared.BlockHead.TheVariants.{Holds, Refused}
 
 -- "Bytes 0–3 block number from 0; 4 count, 1–31; 5 n"; "Bytes 510–511": the check
 abbrev pub number_in : List ℕ → ℕ
@@ -59,12 +59,18 @@ used_end count = 14 + 16 * count
 
 -- "A file's block is looked at by 8, 9, 1, 10, 11": the head by 8, 9 and 1. Of these bytes alone 10 can't be told, so a reader of files
 -- takes number and n from here, looks at 10, and then at 11 by `count_fits`.
-unfoldable pub head_of : List ℕ → BlockHead
+abbrev pub Head : Type 0
+Head = Result BlockHead Refusal
+
+abbrev pub holds : ℕ → ℕ → ℕ → Head
+holds number count n = Ok (record { number = number; count = count; n = n })
+
+unfoldable pub head_of : List ℕ → Head
 head_of s =
-    cond (not (eqb (length s) 512)) (Refused N.wrong_length)
-    (cond (not (eqb (check_in s) (check_of s))) (Refused N.wrong_check)
-    (cond (not (is_size (n_in s))) (Refused N.wrong_size)
-    (Holds (number_in s) (count_in s) (n_in s))))
+    cond (not (eqb (length s) 512)) (Err R.WrongLength)
+    (cond (not (eqb (check_in s) (check_of s))) (Err R.WrongCheck)
+    (cond (not (is_size (n_in s))) (Err R.WrongSize)
+    (holds (number_in s) (count_in s) (n_in s))))
 
 -- 11: 512 bytes without "count 0 or over 31, or a byte 6–13 or past the last action not 0"
 unfoldable pub count_fits : List ℕ → Bool
@@ -72,26 +78,26 @@ count_fits s =
     eqb (length s) 512 && (is_count (count_in s) && (all_zero (slice 6 14 s) && all_zero (slice (used_end (count_in s)) 510 s)))
 
 -- "A single block read by itself is looked at by 8, 9, 1 and 11 only"
-abbrev pub looked_at : Bool → BlockHead → BlockHead
-looked_at fits (Holds number count n) = cond fits (Holds number count n) (Refused N.wrong_count)
-looked_at fits (Refused k) = Refused k
+abbrev pub looked_at : Bool → Head → Head
+looked_at fits (Ok h) = cond fits (Ok h) (Err R.WrongCount)
+looked_at fits (Err k) = Err k
 
-unfoldable pub read_block : List ℕ → BlockHead
+unfoldable pub read_block : List ℕ → Head
 read_block s = looked_at (count_fits s) (head_of s)
 
 -- "gives back the used action bytes of the caller's own block": bytes 14 to 14 + 16 × count; "a refused read gives no actions"
-abbrev pub used_of : List ℕ → BlockHead → List ℕ
-used_of s (Holds number count n) = take (16 * count) (drop 14 s)
-used_of s (Refused k) = []
+abbrev pub used_of : List ℕ → Head → List ℕ
+used_of s (Ok h) = take (16 * h.count) (drop 14 s)
+used_of s (Err k) = []
 
 unfoldable pub used_bytes : List ℕ → List ℕ
 used_bytes s = used_of s (read_block s)
 
 -- what is known of a block whose head was read, and of one that was read by itself
-abbrev pub head_fits : List ℕ → BlockHead → Type 0
-head_fits s (Holds number count n) = (length s ≡ 512) × (count ≡ count_in s)
-head_fits s (Refused k) = Unit
+abbrev pub head_fits : List ℕ → Head → Type 0
+head_fits s (Ok h) = (length s ≡ 512) × (h.count ≡ count_in s)
+head_fits s (Err k) = Unit
 
-abbrev pub block_fits : List ℕ → BlockHead → Type 0
-block_fits s (Holds number count n) = (length s ≡ 512) × (count ≤ 31)
-block_fits s (Refused k) = Unit
+abbrev pub block_fits : List ℕ → Head → Type 0
+block_fits s (Ok h) = (length s ≡ 512) × (h.count ≤ 31)
+block_fits s (Err k) = Unit

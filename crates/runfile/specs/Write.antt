@@ -1,22 +1,21 @@
 -- A block of a run file as it is written.
-use Rattle.std.specs.Prelude.{◌≡◌, Bool, cond, ◌&&◌, not, List, [], ◌∷◌, ◌++◌, ℕ, ◌-◌, ◌/◌, ◌%◌, eqb, length}
+use Rattle.std.specs.Prelude.{◌≡◌, Bool, cond, ◌&&◌, not, List, [], ◌∷◌, ◌++◌, ℕ, ◌-◌, ◌/◌, ◌%◌, eqb, length, true, Result, Ok, Err}
 use Rattle.std.proofs.lemmas.List.Edits.{sets}
 use Rattle.charts.specs.Numbers as N
 use Rattle.charts.specs.Valid.{is_size}
-use Rattle.charts.specs.Records.{read}
+use Rattle.charts.specs.Numbers.{number_of}
+use Rattle.charts.specs.Records.{Decoded, read}
 use Rattle.charts.specs.declared.Action.{Action}
-use Rattle.charts.specs.declared.Decoded.{Decoded}
-use Rattle.charts.specs.declared.Decoded.TheVariants as D
+use Rattle.charts.specs.declared.Refusal.{Refusal}
 use Rattle.charts.specs.Layout.{little, actions_of, records_of}
 use Rattle.runfile.specs.declared.Summed.{Summed}
-use Rattle.runfile.specs.declared.BlockHead.TheVariants.{Holds}
-use Rattle.runfile.specs.Block.{is_count, weigh, zeros, check_sum, read_block, used_bytes}
-use Rattle.runfile.specs.Sums.{sums_for, sums_of}
+use Rattle.runfile.specs.Block.{is_count, weigh, zeros, check_sum, holds, read_block, used_bytes}
+use Rattle.runfile.specs.Sums.{sums_for}
 
 -- "then 2 to 6 for each action", 13 "looked at after 5, by the writer too", and 15 (request 10: "the writer does not write one"): the first refusal, or 0
 abbrev pub refused_or : Decoded → ℕ → ℕ
-refused_or (D.Refused k) later = k
-refused_or (D.Accepted m) later = later
+refused_or (Err k) later = number_of k
+refused_or (Ok m) later = later
 
 abbrev pub first_refusal : ℕ → List Action → ℕ
 first_refusal n [] = N.accepted
@@ -33,6 +32,11 @@ write_number size n records =
     (cond (not (is_size n)) N.wrong_size
     (cond (not (is_records (length records))) N.wrong_count
     (first_refusal n (actions_of (length records / 16) records))))
+
+-- what is known once 8, 1 and 11 were looked at
+abbrev pub Called : ℕ → ℕ → List ℕ → Result Unit Refusal → Type 0
+Called size n records (Ok u) = (size ≡ 512) × (is_size n ≡ true) × (is_records (length records) ≡ true)
+Called size n records (Err k) = write_number size n records ≡ number_of k
 
 -- "Bytes 0–3 block number from 0; 4 count, 1–31; 5 n; 6–13 zero. The actions of a block start at byte 14"; "Bytes past the last action are 0": bytes 0 to 509
 abbrev pub head_bytes : ℕ → ℕ → ℕ → List ℕ
@@ -57,10 +61,6 @@ block_of number n l = block_with number n (records_of l)
 abbrev pub written : ℕ → List ℕ → List ℕ → List ℕ
 written number old new = cond (eqb number N.accepted) new old
 
--- request 5: "to return beside the block 31 numbers for tracing"; "0 past the count and when refused": the sums beside such a block
-abbrev pub sums_given : ℕ → List ℕ → List ℕ
-sums_given number block = cond (eqb number N.accepted) (sums_of block) (zeros 31)
-
 -- what the writer has when it took all actions: they stand in a block, their bytes are summed, and so are those of the first k
 pub record Takes (records : List ℕ) (count : ℕ) (r : Summed) : Type 0 where
   pub stored : r.block ≡ sets (zeros 512) 14 records
@@ -69,5 +69,5 @@ pub record Takes (records : List ℕ) (count : ℕ) (r : Summed) : Type 0 where
 
 -- a written block reads back: the same number and n, and the action bytes that were given
 pub record ReadsBack (number n : ℕ) (records : List ℕ) : Type 0 where
-  pub head : read_block (block_with number n records) ≡ Holds number (length records / 16) n
+  pub head : read_block (block_with number n records) ≡ holds number (length records / 16) n
   pub used : used_bytes (block_with number n records) ≡ records

@@ -10,7 +10,7 @@ use Rattle.runfile.proofs.Sums.{part_small, weigh_cut}
 use Rattle.runfile.proofs.check_sum.Goals as goal
 
 pub overflow_add-result : goal.overflow_add-result
-overflow_add-result c = let b = part_small c.args.block.now 0 496 (λ (i : ℕ). omega (arith, c.shared_slice_known-1.given i)) (search rules) in
+overflow_add-result c = let b = part_small c.args.block.now 0 496 (λ (i : ℕ). omega (arith, c.type_inv.block i)) (search rules) in
     let n : length (take 14 (drop 496 c.args.block.now)) ≡ 14 = length-take-le 14 (drop 496 c.args.block.now) (simp length-drop (search rules)) in
     rw c.rows_sum.ensures (omega (arith, b.1, rw n at c.weighed.ensures.upper_bound))
 

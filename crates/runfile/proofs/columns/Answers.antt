@@ -24,7 +24,7 @@ overflow_add-sum-in-loop-c-2 c = let h = column_more c.args.t.now c.args.u.now c
 
 pub loop-c-preserved : goal.loop-c-preserved
 loop-c-preserved c = let h = column_more c.args.t.now c.args.u.now c.loop-c.c (search rules) (search rules) in
-    (search rules, omega arith)
+    omega arith
 
 pub returns : goal.returns
 returns c = let t = ap (weigh c.loop-c.c) (drop_of_length-le c.args.t.now {i = c.loop-c.c} (search rules)) in

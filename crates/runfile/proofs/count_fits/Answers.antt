@@ -1,35 +1,25 @@
-use mathlib.Core.Path.{◌≡◌, sym, ◌∙◌}
-use Prim.Native.Nat.{ℕ}
+use mathlib.Core.Path.{sym, ◌∙◌}
 use native.Mathlib.Omega.{arith}
-use lib.ListN.{get_or}
-use borrow.Author.Tests.{eq-eqb, ne_eqb, not-true, not-false}
-use Rattle.runfile.proofs.Loops.{count_small}
+use borrow.Author.Tests.{eq-eqb, ne_eqb}
+use Rattle.std.proofs.lemmas.Slice.{between_is}
 use Rattle.runfile.specs.Block.{count_fits}
+use Rattle.runfile.proofs.Parts.{cut}
 use Rattle.runfile.proofs.count_fits.Goals as goal
 
-pub returns-then-block-ne512 : goal.returns-then-block-ne512
+pub returns-then-block-ne512-clause-value : goal.returns-then-block-ne512-clause-value
 unfolding count_fits
-returns-then-block-ne512 c = record { value = simp (ne_eqb _ _ c.if-block-ne512.true); block_bound = λ z. let q : ◌≡◌ {A = ℕ} 0 1 = cc in omega arith }
+returns-then-block-ne512-clause-value c = simp (ne_eqb _ _ c.if-block-ne512.true)
 
-pub returns-then-not-is_count : goal.returns-then-not-is_count
+pub returns-then-not-is_count-clause-value : goal.returns-then-not-is_count-clause-value
 unfolding count_fits
-returns-then-not-is_count c = let none = not-true c.is_count.result c.if-not-is_count.true-raw in
-    record { value = simp (eq-eqb _ _ c.if-block-ne512.false, ← c.is_count.ensures, none); block_bound = λ z. let q : ◌≡◌ {A = ℕ} 0 1 = cc in omega arith }
+returns-then-not-is_count-clause-value c = rw (eq-eqb _ _ c.if-block-ne512.false, sym c.is_count.ensures ∙ c.if-not-is_count.true)
 
-pub returns-then-not-all_zero : goal.returns-then-not-all_zero
+pub returns-then-all_zero-clause-value : goal.returns-then-all_zero-clause-value
 unfolding count_fits
-returns-then-not-all_zero c = let counts = not-false c.is_count.result c.if-not-is_count.false-raw in
-    let stray = not-true c.all_zero.result c.if-not-all_zero.true-raw in record { value = simp (eq-eqb _ _ c.if-block-ne512.false, ← c.is_count.ensures, counts, ← c.all_zero.ensures, stray); block_bound = λ z. let q : ◌≡◌ {A = ℕ} 0 1 = cc in omega arith }
+returns-then-all_zero-clause-value c =
+    rw (eq-eqb _ _ c.if-block-ne512.false, sym c.is_count.ensures ∙ c.if-not-is_count.false, sym (rw (← cut 6 8 c.args.block.now (omega arith)) at c.all_zero.ensures) ∙ c.if-all_zero.true, c.all_zero-then-all_zero.ensures, between_is c.args.block.now _ 510)
 
-pub overflow_mul-count : goal.overflow_mul-count
-overflow_mul-count c = let counts = not-false c.is_count.result c.if-not-is_count.false-raw in
-    omega (arith, count_small (get_or c.args.block.now 4 0) (sym c.is_count.ensures ∙ counts))
-
-pub overflow_add-count : goal.overflow_add-count
-overflow_add-count c = let counts = not-false c.is_count.result c.if-not-is_count.false-raw in
-    omega (arith, count_small (get_or c.args.block.now 4 0) (sym c.is_count.ensures ∙ counts))
-
-pub returns : goal.returns
+pub returns-else-all_zero-clause-value : goal.returns-else-all_zero-clause-value
 unfolding count_fits
-returns c = let counts = not-false c.is_count.result c.if-not-is_count.false-raw in
-    let clear = not-false c.all_zero.result c.if-not-all_zero.false-raw in record { value = simp (eq-eqb _ _ c.if-block-ne512.false, ← c.is_count.ensures, counts, ← c.all_zero.ensures, clear, c.all_zero-2.ensures); block_bound = λ z. count_small _ (sym c.is_count.ensures ∙ counts) }
+returns-else-all_zero-clause-value c =
+    rw (eq-eqb _ _ c.if-block-ne512.false, sym c.is_count.ensures ∙ c.if-not-is_count.false, sym (rw (← cut 6 8 c.args.block.now (omega arith)) at c.all_zero.ensures) ∙ c.if-all_zero.false, c.if-all_zero.false)

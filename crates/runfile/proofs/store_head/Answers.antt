@@ -18,7 +18,7 @@ slice_bounds-weighed-end c = simp length-set (omega (arith, c.put_little.auto.ou
 
 pub overflow_add-sum : goal.overflow_add-sum
 overflow_add-sum c = let r = c.args.records.now in
-    let b = few_small 14 r (λ (i : ℕ). omega (arith, c.shared_slice_known-1.given i)) (search rules) in
+    let b = few_small 14 r (λ (i : ℕ). omega (arith, c.type_inv.records i)) (search rules) in
     omega (arith, c.requires.sum_value, simp length-take at c.weighed-head.ensures.upper_bound)
 
 pub shape_of-block : goal.shape_of-block
