@@ -1,5 +1,6 @@
 -- What `compose` says of a fault, and why: "What can be wrong".
 use Rattle.std.specs.Prelude.{Bool, false, cond, ◌&&◌, ◌||◌, List, [], ◌∷◌, ◌++◌, ℕ, ◌+◌, ◌-◌, ◌/◌, ◌%◌, eqb, ltb, length, take, get_or}
+use Rattle.charts.specs.Numbers.{number_of}
 use Rattle.faults.specs.declared.Fault.{Fault}
 use Rattle.faults.specs.declared.Fault.TheVariants as F
 use Rattle.faults.specs.declared.Cause.{Cause}
@@ -8,7 +9,7 @@ use Rattle.faults.specs.declared.words.Trait.{Trait}
 use Rattle.faults.specs.declared.words.Trait.TheVariants as T
 use Rattle.transcript.specs.Text.{ascii, decimal}
 
--- what is wrong, in words; the paper's number for what the writer would refuse
+-- what is wrong, in words; its number for what the writer would refuse
 unfoldable pub fault_words : Fault → List ℕ
 fault_words F.UnknownWord = ascii "unknown word"
 fault_words F.NotNumber = ascii "not a number"
@@ -24,7 +25,7 @@ fault_words F.NoAction = ascii "no action"
 fault_words F.TooMany = ascii "too many actions"
 fault_words F.NoQuestion = ascii "no find line"
 fault_words F.AfterQuestion = ascii "a line after find"
-fault_words (F.Refused k) = ascii "refused " ++ decimal k
+fault_words (F.Refused refusal) = ascii "refused " ++ decimal (number_of refusal)
 
 -- "`\x` and two hexadecimal digits (`\xC2`)"
 abbrev pub hex_digit : ℕ → ℕ

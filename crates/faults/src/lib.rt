@@ -8,8 +8,10 @@ ghost use Rattle.std.specs.Prelude.{◌≡◌, ◌+◌, ◌≤◌};
 ghost use Rattle.transcript.specs.Room.{end_in, put_in};
 ghost use Rattle.faults.specs.Faults.{longest, fault_line};
 
-// What is wrong in a line of a text or in a text. A refusal has the paper's number.
-#[derive(Clone, Copy)]
+use charts::Refusal;
+
+// What is wrong in a line of a text or in a text.
+#[derive(Clone, Copy, PartialEq, Eq)]
 pub enum Fault {
     UnknownWord,
     NotNumber,
@@ -25,11 +27,11 @@ pub enum Fault {
     TooMany,
     NoQuestion,
     AfterQuestion,
-    Refused(u8),
+    Refused(Refusal),
 }
 
 // What more can be said of a fault, with a part of its line beside it.
-#[derive(Clone, Copy)]
+#[derive(Clone, Copy, PartialEq, Eq)]
 pub enum Cause {
     // Nothing.
     Plain,

@@ -34,9 +34,9 @@ fn put_fault_words(buf: &mut [u8], at: usize, fault: Fault) -> usize
         Fault::TooMany => write::put_word(buf, at, b"too many actions"),
         Fault::NoQuestion => write::put_word(buf, at, b"no find line"),
         Fault::AfterQuestion => write::put_word(buf, at, b"a line after find"),
-        Fault::Refused(k) => {
+        Fault::Refused(refusal) => {
             let b = write::put_word(buf, at, b"refused ");
-            write::put_u8(buf, b, k)
+            write::put_u8(buf, b, refusal.number())
         }
     }
 }

@@ -61,4 +61,4 @@ returns-in-AfterQuestion c = record { upper_bound = omega arith; puts = rw c.in-
 
 pub returns-in-Refused : goal.returns-in-Refused
 unfolding fault_words
-returns-in-Refused c = record { upper_bound = omega arith; puts = rw c.in-Refused.is (and_then c.put_word-b.ensures c.put_u8.ensures.puts) }
+returns-in-Refused c = record { upper_bound = omega arith; puts = rw (c.in-Refused.is, ← c.number.ensures) (and_then c.put_word-b.ensures c.put_u8.ensures.puts) }
