@@ -8,14 +8,15 @@ use lib.Dec.{eqb}
 use lib.ListN.{length, take, drop, take-append-drop, length-drop}
 use lib.Seq.{slice, take-add, take_all, take-take, length-take-le}
 use borrow.Author.Tests.{eqb-true}
-use Rattle.charts.specs.Numbers as N
+use Rattle.charts.specs.declared.Refusal.TheVariants.{WrongLength, WrongCheck, WrongSize}
+use Rattle.std.specs.Prelude.{Ok, Err}
+use Rattle.runfile.specs.declared.BlockHead.{BlockHead}
 use Rattle.charts.specs.Valid.{is_size}
 use Rattle.charts.specs.Layout.{little, bound}
 use Rattle.record.specs.Bytes.{Bytes}
 use Rattle.record.proofs.Little.{little_value, value_bound}
 use Rattle.record.proofs.Round.{from, take_from, bytes_from}
-use Rattle.runfile.specs.declared.BlockHead.TheVariants.{Holds, Refused}
-use Rattle.runfile.specs.Block.{number_in, count_in, n_in, check_in, weigh, check_sum, check_of, is_count, zeros, all_zero, used_end, head_of, count_fits, looked_at, read_block, used_bytes}
+use Rattle.runfile.specs.Block.{number_in, count_in, n_in, check_in, weigh, check_sum, check_of, is_count, zeros, all_zero, used_end, Head, holds, head_of, count_fits, looked_at, read_block, used_bytes}
 use Rattle.runfile.specs.Sums.{sum_to}
 use Rattle.runfile.specs.Write.{head_bytes, body_of, block_with}
 use Rattle.runfile.proofs.Loops.{count_small}
@@ -34,7 +35,10 @@ pub record Accepted (s : List ℕ) (number count n : ℕ) : Type 0 where
   pub the_count : count_in s ≡ count
   pub the_n : n_in s ≡ n
 
-pub shown : (s : List ℕ) (number count n : ℕ) → read_block s ≡ Holds number count n → Accepted s number count n
+one_head : {g h : BlockHead} → ◌≡◌ {A = Head} (Ok g) (Ok h) → g ≡ h
+one_head e = cc
+
+pub shown : (s : List ℕ) (number count n : ℕ) → read_block s ≡ holds number count n → Accepted s number count n
 unfolding read_block head_of count_fits
 shown s number count n h =
     go (eqb (length s) 512) (eqb (check_in s) (check_of s)) (is_size (n_in s)) (is_count (count_in s)) (all_zero (slice 6 14 s)) (all_zero (slice (used_end (count_in s)) 510 s))
@@ -44,8 +48,8 @@ shown s number count n h =
         → eqb (length s) 512 ≡ a → eqb (check_in s) (check_of s) ≡ b → is_size (n_in s) ≡ c → is_count (count_in s) ≡ d → all_zero (slice 6 14 s) ≡ e
         → all_zero (slice (used_end (count_in s)) 510 s) ≡ f
         → looked_at (a && (d && (e && f)))
-        (cond (not a) (Refused N.wrong_length) (cond (not b) (Refused N.wrong_check) (cond (not c) (Refused N.wrong_size) (Holds (number_in s) (count_in s) (n_in s)))))
-        ≡ Holds number count n
+        (cond (not a) (Err WrongLength) (cond (not b) (Err WrongCheck) (cond (not c) (Err WrongSize) (holds (number_in s) (count_in s) (n_in s)))))
+        ≡ holds number count n
         → Accepted s number count n
     go true true true true true true ea eb ec ed ee ef q = record {
       size = eqb-true (length s) 512 ea;
@@ -54,9 +58,9 @@ shown s number count n h =
       counted = ed;
       unused = ee;
       past_last = ef;
-      the_number = cc;
-      the_count = cc;
-      the_n = cc;
+      the_number = ap (λ (h : BlockHead). h.number) (one_head q);
+      the_count = ap (λ (h : BlockHead). h.count) (one_head q);
+      the_n = ap (λ (h : BlockHead). h.n) (one_head q);
     }
     go true true true true true false ea eb ec ed ee ef q = let z : ◌≡◌ {A = ℕ} 0 1 = cc in absurd (omega arith)
     go true true true true false f ea eb ec ed ee ef q = let z : ◌≡◌ {A = ℕ} 0 1 = cc in absurd (omega arith)
@@ -65,7 +69,7 @@ shown s number count n h =
     go true false c d e f ea eb ec ed ee ef q = let z : ◌≡◌ {A = ℕ} 0 1 = cc in absurd (omega arith)
     go false b c d e f ea eb ec ed ee ef q = let z : ◌≡◌ {A = ℕ} 0 1 = cc in absurd (omega arith)
 
-module _ (s : List ℕ) (number count n : ℕ) (read : read_block s ≡ Holds number count n) where
+module _ (s : List ℕ) (number count n : ℕ) (read : read_block s ≡ holds number count n) where
   a : Accepted s number count n
   a = shown s number count n read
 
@@ -81,7 +85,7 @@ module _ (s : List ℕ) (number count n : ℕ) (read : read_block s ≡ Holds nu
       let fits : 16 * count ≤ length (drop 14 s) = simp length-drop (omega (arith, at_most, a.size)) in
       rw used_is (length-take-le (16 * count) (drop 14 s) fits)
 
-module _ (s : List ℕ) (number count n : ℕ) (bytes : Bytes s) (read : read_block s ≡ Holds number count n) where
+module _ (s : List ℕ) (number count n : ℕ) (bytes : Bytes s) (read : read_block s ≡ holds number count n) where
   b : Accepted s number count n
   b = shown s number count n read
 

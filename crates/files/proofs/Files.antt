@@ -9,10 +9,9 @@ use lib.ListN.{length, take, drop, length-append, length-take, length-drop, take
 use lib.Seq.{take_at, drop_at, take_all, length-take-le}
 use borrow.Author.Tests.{lt-ltb, ltb-true}
 use Rattle.charts.specs.Valid.{is_size}
-use Rattle.charts.specs.Records.{read}
+use Rattle.charts.specs.Records.{Decoded, read}
 use Rattle.charts.specs.declared.Action.{Action}
-use Rattle.charts.specs.declared.Decoded.{Decoded}
-use Rattle.charts.specs.declared.Decoded.TheVariants as D
+use Rattle.std.specs.Prelude.{Ok, Err}
 use Rattle.charts.specs.Layout.{little, bound, records_of}
 use Rattle.record.specs.Bytes.{Bytes}
 use Rattle.record.proofs.Little.{bytes_append, bytes_little}
@@ -135,16 +134,16 @@ module _ (n : ℕ) where
   taken_first (a ∷ l) m h = go (read n a) (taken_first l m) h
     where
       go : (d : Decoded) → (first_refusal n (l ++ m) ≡ 0 → first_refusal n l ≡ 0) → refused_or d (first_refusal n (l ++ m)) ≡ 0 → refused_or d (first_refusal n l) ≡ 0
-      go (D.Refused k) f e = e
-      go (D.Accepted x) f e = f e
+      go (Err k) f e = e
+      go (Ok x) f e = f e
 
   pub taken_second : (l m : List Action) → first_refusal n (l ++ m) ≡ 0 → first_refusal n m ≡ 0
   taken_second [] m h = h
   taken_second (a ∷ l) m h = go (read n a) refl (taken_second l m) h
     where
       go : (d : Decoded) → read n a ≡ d → (first_refusal n (l ++ m) ≡ 0 → first_refusal n m ≡ 0) → refused_or d (first_refusal n (l ++ m)) ≡ 0 → first_refusal n m ≡ 0
-      go (D.Refused k) r f e = absurd (never_zero n a (rw e at r))
-      go (D.Accepted x) r f e = f e
+      go (Err k) r f e = absurd (never_zero k e)
+      go (Ok x) r f e = f e
 
 -- the writer takes a block of actions that it takes one by one
 pub block_taken : (n : ℕ) (l : List Action) → is_size n ≡ true → 1 ≤ length l → length l ≤ 31 → AllFit l → first_refusal n l ≡ 0 → write_number 512 n (records_of l) ≡ 0

@@ -10,8 +10,7 @@ use Rattle.charts.specs.Layout.{bytes_of, actions_of, records_of}
 use Rattle.record.specs.Bytes.{Bytes}
 use Rattle.record.proofs.Little.{bytes_append}
 use Rattle.record.proofs.Round.{action_front, action_of_bytes, bytes_of_action, length_bytes, bytes_bytes}
-use Rattle.runfile.specs.declared.BlockHead.TheVariants.{Holds}
-use Rattle.runfile.specs.Block.{read_block, used_bytes}
+use Rattle.runfile.specs.Block.{holds, read_block, used_bytes}
 use Rattle.files.specs.File.{AllFit}
 use Rattle.runfile.proofs.Parts.{cut, bytes_drop}
 use Rattle.files.proofs.Accepted.{shown, at_most, used_is}
@@ -51,7 +50,7 @@ actions_front (suc k) m s h f =
     let f' : m - 16 ≤ length (drop 16 s) = simp length-drop (omega arith) in
     rw (action_front m s p f, c, actions_front k (m - 16) (drop 16 s) h' f')
 
-pub actions_in_block : (s : List ℕ) (number count n : ℕ) → read_block s ≡ Holds number count n → actions_of count (used_bytes s) ≡ actions_of count (drop 14 s)
+pub actions_in_block : (s : List ℕ) (number count n : ℕ) → read_block s ≡ holds number count n → actions_of count (used_bytes s) ≡ actions_of count (drop 14 s)
 actions_in_block s number count n read =
     let a = shown s number count n read in
     let few = at_most s number count n read in

@@ -12,12 +12,11 @@ use Rattle.charts.specs.declared.Action.{Action}
 use Rattle.charts.specs.Valid.{is_size}
 use Rattle.charts.proofs.Tools.{and-true, and_yes, or-true, both, never, pick_by}
 use Rattle.record.specs.Bytes.{Bytes}
-use Rattle.runfile.specs.declared.BlockHead.{BlockHead}
-use Rattle.runfile.specs.declared.BlockHead.TheVariants.{Holds, Refused}
 use Rattle.files.specs.declared.order.Stage.{Stage}
 use Rattle.files.specs.declared.order.Stage.TheVariants.{Unopened, After, Ended}
 use Rattle.runfile.specs.Block as B
-use Rattle.runfile.specs.Block.{head_of, count_fits, read_block, n_in, check_in, check_of}
+use Rattle.std.specs.Prelude.{Ok, Err}
+use Rattle.runfile.specs.Block.{Head, holds, head_of, count_fits, read_block, n_in, check_in, check_of}
 use Rattle.files.specs.File.{IsBlock}
 use Rattle.files.specs.Pieces.{Before, none, is_first, follows, looked_at, actions_in}
 use Rattle.files.specs.Order.{is_ended, accepted_by, is_next, checked, stage_after}
@@ -42,18 +41,18 @@ same_next Unopened m number n k = sym (and_yes (eqb number 0))
 same_next (After i c) m number n k = rw (add-one i, eqb-suc-zero i, leb-suc-suc (suc i) 4294967295)
 same_next Ended m number n k = cc
 
-pub same_look : (g : Stage) (m : ℕ) (b : List ℕ) (h : BlockHead) → is_ended g ≡ false → checked g m b h ≡ looked_at (before g m) b h
-same_look g m b (Holds number count n) k = rw (same_next g m number n k)
-same_look g m b (Refused j) k = refl
+pub same_look : (g : Stage) (m : ℕ) (b : List ℕ) (h : Head) → is_ended g ≡ false → checked g m b h ≡ looked_at (before g m) b h
+same_look g m b (Ok h) k = rw (same_next g m h.number h.n k)
+same_look g m b (Err j) k = refl
 
 -- what is known of a block that was taken: 10 let it pass, and so did 1
-abbrev pub Passed : Before → BlockHead → Type 0
-Passed p (Holds number count n) = (follows p number n ≡ true) × (is_size n ≡ true)
-Passed p (Refused k) = Unit {0}
+abbrev pub Passed : Before → Head → Type 0
+Passed p (Ok h) = (follows p h.number h.n ≡ true) × (is_size h.n ≡ true)
+Passed p (Err k) = Unit {0}
 
-abbrev Sized : BlockHead → Type 0
-Sized (Holds number count n) = is_size n ≡ true
-Sized (Refused k) = Unit {0}
+abbrev Sized : Head → Type 0
+Sized (Ok h) = is_size h.n ≡ true
+Sized (Err k) = Unit {0}
 
 not_not : (b : Bool) → not b ≡ false → b ≡ true
 not_not true e = refl
@@ -66,10 +65,10 @@ sized b =
     pick_by Sized (not (eqb (check_in b) (check_of b))) _ _ (λ e. tt) (λ e.
     pick_by Sized (not (is_size (n_in b))) _ _ (λ e. tt) (λ e. not_not _ e)))
 
-passed_by : (p : Before) (b : List ℕ) (h : BlockHead) → Sized h → Passed p (looked_at p b h)
-passed_by p b (Refused k) z = tt
-passed_by p b (Holds number count n) z =
-    pick_by (Passed p) (not (follows p number n)) _ _ (λ e. tt) (λ e.
+passed_by : (p : Before) (b : List ℕ) (h : Head) → Sized h → Passed p (looked_at p b h)
+passed_by p b (Err k) z = tt
+passed_by p b (Ok h) z =
+    pick_by (Passed p) (not (follows p h.number h.n)) _ _ (λ e. tt) (λ e.
     pick_by (Passed p) (not (count_fits b)) _ _ (λ f. tt) (λ f. (not_not _ e, z)))
 
 pub passed : (p : Before) (b : List ℕ) → Passed p (looked_at p b (head_of b))
@@ -113,14 +112,14 @@ pub record At (p : Before) (n i : ℕ) : Type 0 where
   pub all_full : p.full ≡ true
   pub same_n : (is_first p || eqb n p.n) ≡ true
 
-taken : (f : Bool) (h : BlockHead) (i c n : ℕ) → B.looked_at f h ≡ Holds i c n → (f ≡ true) × (h ≡ Holds i c n)
-taken true (Holds j d m) i c n e = (refl, e)
-taken false (Holds j d m) i c n e = let z : ◌≡◌ {A = ℕ} 0 1 = cc in absurd (omega arith)
-taken f (Refused k) i c n e = let z : ◌≡◌ {A = ℕ} 0 1 = cc in absurd (omega arith)
+taken : (f : Bool) (h : Head) (i c n : ℕ) → B.looked_at f h ≡ holds i c n → (f ≡ true) × (h ≡ holds i c n)
+taken true (Ok x) i c n e = (refl, e)
+taken false (Ok x) i c n e = let z : ◌≡◌ {A = ℕ} 0 1 = cc in absurd (omega arith)
+taken f (Err k) i c n e = let z : ◌≡◌ {A = ℕ} 0 1 = cc in absurd (omega arith)
 
 -- it is taken there, with its actions
 pub record Found (n i : ℕ) (l : List Action) (s : List ℕ) (p : Before) : Type 0 where
-  pub head : looked_at p s (head_of s) ≡ Holds i (length l) n
+  pub head : looked_at p s (head_of s) ≡ holds i (length l) n
   pub actions : actions_in (length l) s ≡ l
 
 pub found : (n i : ℕ) (l : List Action) (s : List ℕ) → Bytes s → IsBlock n i l s → (p : Before) → At p n i → Found n i l s p

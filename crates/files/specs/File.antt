@@ -5,8 +5,7 @@ use Rattle.charts.specs.Valid.{is_size}
 use Rattle.charts.specs.declared.Action.{Action}
 use Rattle.charts.specs.Layout.{bound, actions_of, records_of, Fits}
 use Rattle.record.specs.Bytes.{Bytes}
-use Rattle.runfile.specs.declared.BlockHead.TheVariants.{Holds}
-use Rattle.runfile.specs.Block.{read_block, used_bytes}
+use Rattle.runfile.specs.Block.{holds, read_block, used_bytes}
 use Rattle.runfile.specs.Write.{first_refusal, write_number, block_of}
 
 -- "All but the last block are full": how many blocks a list of actions fills, and its blocks from number i on
@@ -23,7 +22,7 @@ file_of n l = file_from (blocks_for (length l)) 0 n l
 
 -- a block that a reader of files accepts as block i of a file for n nodes, by 8, 9, 1, 10 and 11, and whose actions are l
 pub record IsBlock (n i : ℕ) (l : List Action) (s : List ℕ) : Type 0 where
-  pub accepted : read_block s ≡ Holds i (length l) n
+  pub accepted : read_block s ≡ holds i (length l) n
   pub actions : actions_of (length l) (used_bytes s) ≡ l
 
 -- 10: "block number not the next (first: 0 […]), n not block 0's, or the block before not full" is refused: the blocks of a file from number i on

@@ -1,11 +1,9 @@
 -- How far a file has been read, and what 10 then asks of the next block.
-use Rattle.std.specs.Prelude.{Bool, true, false, cond, ◌&&◌, not, List, ℕ, ◌+◌, ◌*◌, eqb, ltb}
-use Rattle.charts.specs.Numbers as N
-use Rattle.runfile.specs.declared.BlockHead.{BlockHead}
-use Rattle.runfile.specs.declared.BlockHead.TheVariants.{Holds, Refused}
+use Rattle.std.specs.Prelude.{Bool, true, false, cond, ◌&&◌, not, List, ℕ, ◌+◌, ◌*◌, eqb, ltb, Ok, Err}
+use Rattle.charts.specs.declared.Refusal.TheVariants.{WrongOrder, WrongCount}
 use Rattle.files.specs.declared.order.Stage.{Stage}
 use Rattle.files.specs.declared.order.Stage.TheVariants.{Unopened, After, Ended}
-use Rattle.runfile.specs.Block.{head_of, count_fits}
+use Rattle.runfile.specs.Block.{Head, head_of, count_fits}
 
 abbrev pub is_ended : Stage → Bool
 is_ended Unopened = false
@@ -25,20 +23,15 @@ is_next (After i c) m number n = ltb i 4294967295 && (eqb number (i + 1) && (eqb
 is_next Ended m number n = false
 
 -- the piece looked at by 8, 9, 1, 10, 11
-abbrev pub checked : Stage → ℕ → List ℕ → BlockHead → BlockHead
-checked g m s (Refused k) = Refused k
-checked g m s (Holds number count n) =
-    cond (not (is_next g m number n)) (Refused N.wrong_order)
-    (cond (not (count_fits s)) (Refused N.wrong_count)
-    (Holds number count n))
+abbrev pub checked : Stage → ℕ → List ℕ → Head → Head
+checked g m s (Err k) = Err k
+checked g m s (Ok h) =
+    cond (not (is_next g m h.number h.n)) (Err WrongOrder)
+    (cond (not (count_fits s)) (Err WrongCount)
+    (Ok h))
 
-unfoldable pub look_of : Stage → ℕ → List ℕ → BlockHead
+unfoldable pub look_of : Stage → ℕ → List ℕ → Head
 look_of g m s = checked g m s (head_of s)
-
--- this paper's number of a head that was looked at
-abbrev pub refusal_of : BlockHead → ℕ
-refusal_of (Refused k) = k
-refusal_of (Holds number count n) = N.accepted
 
 abbrev pub stage_after : Bool → ℕ → ℕ → Stage
 stage_after true number count = Ended

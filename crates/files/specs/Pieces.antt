@@ -1,11 +1,9 @@
 -- A file cut into pieces, each looked at as the next block of the file.
-use Rattle.std.specs.Prelude.{Bool, true, cond, ◌&&◌, ◌||◌, not, List, [], ◌∷◌, ℕ, zero, suc, eqb, ltb, length, take, drop}
-use Rattle.charts.specs.Numbers as N
+use Rattle.std.specs.Prelude.{Bool, true, cond, ◌&&◌, ◌||◌, not, List, [], ◌∷◌, ℕ, zero, suc, eqb, ltb, length, take, drop, Ok, Err}
+use Rattle.charts.specs.declared.Refusal.TheVariants.{WrongOrder, WrongCount}
 use Rattle.charts.specs.declared.Action.{Action}
 use Rattle.charts.specs.Layout.{actions_of}
-use Rattle.runfile.specs.declared.BlockHead.{BlockHead}
-use Rattle.runfile.specs.declared.BlockHead.TheVariants.{Holds, Refused}
-use Rattle.runfile.specs.Block.{count_fits}
+use Rattle.runfile.specs.Block.{Head, count_fits}
 
 -- "Blocks of 512 bytes": a file cut into pieces of 512 bytes, the last one possibly shorter. (No file has more pieces than bytes.)
 abbrev pub cut : ℕ → List ℕ → List (List ℕ)
@@ -34,12 +32,12 @@ follows p number n =
     ltb p.blocks 4294967296 && (eqb number p.blocks && ((is_first p || eqb n p.n) && p.full))
 
 -- "A file's block is looked at by 8, 9, 1, 10, 11"
-abbrev pub looked_at : Before → List ℕ → BlockHead → BlockHead
-looked_at p s (Refused k) = Refused k
-looked_at p s (Holds number count n) =
-    cond (not (follows p number n)) (Refused N.wrong_order)
-    (cond (not (count_fits s)) (Refused N.wrong_count)
-    (Holds number count n))
+abbrev pub looked_at : Before → List ℕ → Head → Head
+looked_at p s (Err k) = Err k
+looked_at p s (Ok h) =
+    cond (not (follows p h.number h.n)) (Err WrongOrder)
+    (cond (not (count_fits s)) (Err WrongCount)
+    (Ok h))
 
 -- "The actions of a block start at byte 14, 16 bytes each"
 abbrev pub actions_in : ℕ → List ℕ → List Action

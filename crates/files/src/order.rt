@@ -1,13 +1,10 @@
 // The order of a file's blocks: how far a file has been read, and its next block looked at by 8, 9, 1, 10, 11.
 ghost use Rattle.std.specs.Prelude.{◌≡◌, ◌≤◌};
 ghost use Rattle.runfile.specs.Block.{block_fits};
-ghost use Rattle.files.specs.Order.{is_ended, accepted_by, is_next, look_of, refusal_of, stage_after};
+ghost use Rattle.files.specs.Order.{is_ended, accepted_by, is_next, look_of, stage_after};
 
+use charts::Refusal;
 use runfile::{BlockHead, count_fits, read_head};
-
-const WRONG_ORDER: u8 = 10;
-
-const WRONG_COUNT: u8 = 11;
 
 const FULL: u8 = 31;
 
@@ -24,14 +21,7 @@ pub enum Stage {
 pub fn is_ended(stage: Stage) -> bool
     ensures { result ≡ is_ended stage }
 {
-    match stage {
-        Stage::Unopened => false,
-        Stage::After {
-            number: _,
-            count: _,
-        } => false,
-        Stage::Ended => true,
-    }
+    matches!(stage, Stage::Ended)
 }
 
 // How many actions were accepted: every block before the last one is full.
@@ -40,13 +30,13 @@ pub fn accepted_by(stage: Stage) -> u64
     ensures value { result ≡ accepted_by stage }
 {
     match stage {
-        Stage::Unopened => 0,
-        Stage::After { number, count } => 31 * (number as u64) + count as u64,
-        Stage::Ended => 0,
+        Stage::After { number, count } => 31 * number as u64 + count as u64,
+        _ => 0,
     }
 }
 
 // Whether 10 lets a block with this number and n be the next one, m being block 0's n.
+#[tactic(auto, unfolding(crate::specs::Order::is_next))]
 pub fn is_next(stage: Stage, m: u8, number: u32, n: u8) -> bool
     ensures { result ≡ is_next stage m number n }
 {
@@ -55,57 +45,25 @@ pub fn is_next(stage: Stage, m: u8, number: u32, n: u8) -> bool
         Stage::After {
             number: before,
             count,
-        } => {
-            if LAST_NUMBER <= before {
-                return false;
-            }
-            if number != before + 1 {
-                return false;
-            }
-            if n != m {
-                return false;
-            }
-            count == FULL
-        }
+        } => before < LAST_NUMBER && number == before + 1 && n == m && count == FULL,
         Stage::Ended => false,
     }
 }
 
 // A piece of a file looked at by 8, 9, 1, 10, 11; m is block 0's n.
-pub fn look(stage: Stage, m: u8, piece: &[u8]) -> BlockHead
+#[tactic(auto, unfolding(crate::specs::Order::look_of))]
+pub fn look(stage: Stage, m: u8, piece: &[u8]) -> Result<BlockHead, Refusal>
     ensures value { result ≡ look_of stage m piece.now }
     ensures block_fits { block_fits piece.now result }
 {
-    let head = read_head(piece);
-    let BlockHead::Holds {
-        number,
-        count: _,
-        n,
-    } = head
-    else {
-        return head;
-    };
-    if !is_next(stage, m, number, n) {
-        return BlockHead::Refused(WRONG_ORDER);
+    let head = read_head(piece)?;
+    if !is_next(stage, m, head.number, head.n) {
+        return Err(Refusal::WrongOrder);
     }
     if !count_fits(piece) {
-        return BlockHead::Refused(WRONG_COUNT);
+        return Err(Refusal::WrongCount);
     }
-    head
-}
-
-// The number of a refused head.
-pub fn refusal(head: BlockHead) -> u8
-    ensures { result ≡ refusal_of head }
-{
-    match head {
-        BlockHead::Refused(k) => k,
-        BlockHead::Holds {
-            number: _,
-            count: _,
-            n: _,
-        } => 0,
-    }
+    Ok(head)
 }
 
 // The stage after a block that was taken; a refused action in it has ended the file.
@@ -113,10 +71,8 @@ pub fn stage_after(ended: bool, number: u32, count: u8) -> Stage
     ensures { result ≡ stage_after ended number count }
 {
     if ended {
-        return Stage::Ended;
-    }
-    Stage::After {
-        number: number,
-        count: count,
+        Stage::Ended
+    } else {
+        Stage::After { number, count }
     }
 }
