@@ -1,3 +1,4 @@
 pub mod WordLaws
+pub mod Names
 pub mod Spaced
 pub mod Figures

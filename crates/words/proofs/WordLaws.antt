@@ -1,38 +1,13 @@
 -- The words of a line, byte by byte. Assumes nothing.
-use mathlib.Core.Path.{◌≡◌, refl, ap, sym}
-use mathlib.Core.Bool.{Bool, true, false, cond, ◌||◌, ◌&&◌}
+use mathlib.Core.Path.{◌≡◌, refl, sym, ap}
+use mathlib.Core.Bool.{Bool, true, false, cond, ◌||◌}
 use mathlib.Core.List.{List, [], ◌∷◌, ◌++◌}
-use Prim.Native.Nat.{ℕ, zero, suc, ◌+◌, ◌-◌, ◌<◌, ◌≤◌}
+use Prim.Native.Nat.{ℕ, suc, ◌+◌, ◌-◌, ◌<◌, ◌≤◌}
 use native.Mathlib.Omega.{arith}
-use lib.Dec.{eqb}
 use lib.ListN.{length, take, drop, get_or, length-drop, drop_of_length-le}
 use lib.Seq.{take-suc, get_or-drop, drop-cons, length-take-le}
-use Rattle.words.specs.Words.{is_blank, is_hash, ends_word, with_word, words_from, same, token_of, tokens_of_words, tokens_of}
+use Rattle.words.specs.Words.{is_blank, is_hash, ends_word, with_word, words_from, token_of, tokens_of_words, tokens_of}
 use Rattle.words.specs.Cursors.{tokens_left}
-
--- lists of two lengths are not the same
-pub differ : (l m : List ℕ) → (length l ≡ length m → ⊥) → same l m ≡ false
-differ [] [] h = absurd (h refl)
-differ [] (c ∷ m) h = refl
-differ (b ∷ l) [] h = refl
-differ (b ∷ l) (c ∷ m) h = rw (differ l m (λ e. h (ap suc e))) (and-false (eqb b c))
-  where
-    and-false : (p : Bool) → (p && false) ≡ false
-    and-false true = refl
-    and-false false = refl
-
--- a number from m on that is not m
-pub above : (m : ℕ) {k : ℕ} → m ≤ k → (k ≡ m → ⊥) → suc m ≤ k
-above m h e = omega arith
-
-pub only_last : {m k : ℕ} → m ≤ k → k < suc m → k ≡ m
-only_last g h = omega arith
-
--- past the end of a word
-pub past_end : (l : List ℕ) (i : ℕ) → length l ≤ i → get_or l i 0 ≡ 0
-past_end [] i h = refl
-past_end (b ∷ l) zero h = absurd (omega arith)
-past_end (b ∷ l) (suc i) h = past_end l i (omega arith)
 
 -- a blank before the words
 pub skip_one : (b : ℕ) (l : List ℕ) → is_blank b ≡ true → tokens_of (b ∷ l) ≡ tokens_of l

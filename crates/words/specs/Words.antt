@@ -1,5 +1,7 @@
 -- The words of a line, and what each of them is.
-use Rattle.std.specs.Prelude.{Bool, true, false, cond, ◌&&◌, ◌||◌, List, [], ◌∷◌, ◌++◌, ℕ, suc, ◌+◌, ◌*◌, ◌-◌, eqb, ltb, length, drop, get_or}
+use Rattle.std.specs.Prelude.{Bool, cond, ◌&&◌, ◌||◌, List, [], ◌∷◌, ◌++◌, ℕ, suc, ◌+◌, ◌*◌, ◌-◌, eqb, ltb, length, drop, get_or, Option, None, Some}
+use Rattle.std.specs.Borrow.{Bor}
+use Rattle.std.specs.Str.{bytes_eq}
 use Rattle.transcript.specs.Text.{ascii}
 use Rattle.words.specs.declared.Token.{Token}
 use Rattle.words.specs.declared.Token.TheVariants.{Word, Number, Large}
@@ -29,12 +31,6 @@ words_from w (b ∷ l) =
 
 abbrev pub words_of : List ℕ → List (List ℕ)
 words_of line = words_from [] line
-
-abbrev pub same : List ℕ → List ℕ → Bool
-same [] [] = true
-same [] (c ∷ m) = false
-same (b ∷ l) [] = false
-same (b ∷ l) (c ∷ m) = eqb b c && same l m
 
 -- document 01's words of the ten kinds and the two of request 6, in the order of the kinds; then the five other words of runs, the five that settings alone have, and the eleven
 -- that questions alone have: `find`, `within` and the words of the reports, in the order of their numbers
@@ -90,7 +86,16 @@ broad = 33
 -- the place of a word among names of which the first has place k; 0 for an unknown word
 abbrev pub place_in : ℕ → List (List ℕ) → List ℕ → ℕ
 place_in k [] w = 0
-place_in k (v ∷ l) w = cond (same w v) k (place_in (suc k) l w)
+place_in k (v ∷ l) w = cond (bytes_eq w v) k (place_in (suc k) l w)
+
+-- the texts of the code's table of names, and a place in it, counted from 1; 0 for none
+abbrev pub texts : List (Bor (List ℕ)) → List (List ℕ)
+texts [] = []
+texts (x ∷ l) = x.now ∷ texts l
+
+abbrev pub numbered : Option ℕ → ℕ
+numbered None = 0
+numbered (Some k) = suc k
 
 unfoldable pub name_of : List ℕ → ℕ
 name_of w = place_in 1 names w

@@ -1,17 +1,22 @@
+use lib.ListN.{length}
+use mathlib.Core.Path.{◌≡◌}
 use Rattle.words.proofs.WordLaws.{begins, one_more, word_ends, line_ends}
 use native.Mathlib.Numerals.{add-one}
+use native.Mathlib.Omega.{arith}
 use mathlib.Core.Path.{sym, ◌∙◌}
-use borrow.Author.Rules.{rules}
 use Rattle.words.proofs.end_of_word.Goals as goal
 
 pub loop-i-init : goal.loop-i-init
-loop-i-init c = (search rules, search rules, rw add-one (begins c.args.line.now c.args.from c.requires.from_in_bounds c.requires.from_value))
+loop-i-init c = rw add-one (begins c.args.line.now c.args.from c.requires.from_in_bounds c.requires.from_value)
 
-pub returns-then-ends_word : goal.returns-then-ends_word
-returns-then-ends_word c = record { lower_bound = (c.loop-i.invariant.0, c.loop-i.invariant.1); from_value_2 = word_ends c.args.line.now c.args.from c.loop-i.i c.loop-i.invariant.0 c.loop-i-test.true (sym c.ends_word.ensures ∙ c.if-ends_word.true) c.loop-i.invariant.2 }
+pub returns-then-ends_word-clause-from_value_2 : goal.returns-then-ends_word-clause-from_value_2
+returns-then-ends_word-clause-from_value_2 c =
+    word_ends c.args.line.now c.args.from c.loop-i.i (omega arith) c.loop-i-test.true (sym c.ends_word.ensures ∙ c.if-ends_word.true) c.loop-i.invariant
 
 pub loop-i-preserved : goal.loop-i-preserved
-loop-i-preserved c = (search rules, search rules, rw add-one (one_more c.args.line.now c.args.from c.loop-i.i c.loop-i.invariant.0 c.loop-i-test.true (sym c.ends_word.ensures ∙ c.if-ends_word.false) ∙ c.loop-i.invariant.2))
+loop-i-preserved c = rw add-one (one_more c.args.line.now c.args.from c.loop-i.i (omega arith) c.loop-i-test.true (sym c.ends_word.ensures ∙ c.if-ends_word.false) ∙ c.loop-i.invariant)
 
-pub returns : goal.returns
-returns c = record { lower_bound = (c.loop-i.invariant.0, c.loop-i.invariant.1); from_value_2 = line_ends c.args.line.now c.args.from c.loop-i.i c.loop-i.invariant.0 c.loop-i.invariant.1 c.loop-i-test.false c.loop-i.invariant.2 }
+pub returns-clause-from_value_2 : goal.returns-clause-from_value_2
+returns-clause-from_value_2 c =
+    let last : c.loop-i.i ≡ length c.args.line.now = omega arith in
+    line_ends c.args.line.now c.args.from (length c.args.line.now) (omega arith) (omega arith) (omega arith) (rw last at c.loop-i.invariant)
