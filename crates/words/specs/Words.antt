@@ -3,6 +3,10 @@ use Rattle.std.specs.Prelude.{Bool, cond, ◌&&◌, ◌||◌, List, [], ◌∷�
 use Rattle.std.specs.Borrow.{Bor}
 use Rattle.std.specs.Str.{bytes_eq}
 use Rattle.transcript.specs.Text.{ascii}
+use Rattle.charts.specs.declared.Kind.TheVariants as K
+use Rattle.charts.specs.declared.Word.TheVariants as R
+use Rattle.words.specs.declared.Name.{Name}
+use Rattle.words.specs.declared.Name.TheVariants.{Kind, Nodes, All, Hold, Times, Label, Actions, User, To, Spell, Fillers, Find, Within, Report}
 use Rattle.words.specs.declared.Token.{Token}
 use Rattle.words.specs.declared.Token.TheVariants.{Word, Number, Large}
 
@@ -34,71 +38,29 @@ words_of line = words_from [] line
 
 -- document 01's words of the ten kinds and the two of request 6, in the order of the kinds; then the five other words of runs, the five that settings alone have, and the eleven
 -- that questions alone have: `find`, `within` and the words of the reports, in the order of their numbers
-abbrev pub names : List (List ℕ)
+abbrev pub names : List (List ℕ × Name)
 names =
-    ascii "request" ∷ ascii "arbitrate" ∷ ascii "respond" ∷ ascii "clock" ∷ ascii "pass" ∷ ascii "lose" ∷ ascii "change" ∷ ascii "grant" ∷ ascii "gap"
-    ∷ ascii "reset" ∷ ascii "ask" ∷ ascii "decide" ∷ ascii "nodes" ∷ ascii "all" ∷ ascii "hold" ∷ ascii "*" ∷ ascii "label" ∷ ascii "actions"
-    ∷ ascii "user" ∷ ascii "to" ∷ ascii "spell" ∷ ascii "fillers" ∷ ascii "find" ∷ ascii "within" ∷ ascii "won" ∷ ascii "lost" ∷ ascii "sent"
-    ∷ ascii "ack" ∷ ascii "miss" ∷ ascii "drop" ∷ ascii "good" ∷ ascii "dcrc" ∷ ascii "broad" ∷ []
+    (ascii "request", Kind K.Request) ∷ (ascii "arbitrate", Kind K.Arbitrate) ∷ (ascii "respond", Kind K.Respond) ∷ (ascii "clock", Kind K.Clock)
+    ∷ (ascii "pass", Kind K.Pass) ∷ (ascii "lose", Kind K.Lose) ∷ (ascii "change", Kind K.Change) ∷ (ascii "grant", Kind K.Grant)
+    ∷ (ascii "gap", Kind K.Gap) ∷ (ascii "reset", Kind K.Reset) ∷ (ascii "ask", Kind K.Ask) ∷ (ascii "decide", Kind K.Decide) ∷ (ascii "nodes", Nodes)
+    ∷ (ascii "all", All) ∷ (ascii "hold", Hold) ∷ (ascii "*", Times) ∷ (ascii "label", Label) ∷ (ascii "actions", Actions) ∷ (ascii "user", User)
+    ∷ (ascii "to", To) ∷ (ascii "spell", Spell) ∷ (ascii "fillers", Fillers) ∷ (ascii "find", Find) ∷ (ascii "within", Within)
+    ∷ (ascii "won", Report R.Won) ∷ (ascii "lost", Report R.Lost) ∷ (ascii "sent", Report R.Sent) ∷ (ascii "ack", Report R.Ack)
+    ∷ (ascii "miss", Report R.Miss) ∷ (ascii "drop", Report R.Drop) ∷ (ascii "good", Report R.Good) ∷ (ascii "dcrc", Report R.Dcrc)
+    ∷ (ascii "broad", Report R.Broad) ∷ []
 
-abbrev pub lose : ℕ
-lose = 6
+-- the name that a word stands for in a table of names
+abbrev pub named_in : List (List ℕ × Name) → List ℕ → Option Name
+named_in [] w = None
+named_in ((v, k) ∷ l) w = cond (bytes_eq w v) (Some k) (named_in l w)
 
-abbrev pub nodes : ℕ
-nodes = 13
-
-abbrev pub all : ℕ
-all = 14
-
-abbrev pub hold : ℕ
-hold = 15
-
-abbrev pub times : ℕ
-times = 16
-
-abbrev pub label : ℕ
-label = 17
-
-abbrev pub actions : ℕ
-actions = 18
-
-abbrev pub user : ℕ
-user = 19
-
-abbrev pub to : ℕ
-to = 20
-
-abbrev pub spell : ℕ
-spell = 21
-
-abbrev pub fillers : ℕ
-fillers = 22
-
-abbrev pub find : ℕ
-find = 23
-
-abbrev pub within : ℕ
-within = 24
-
-abbrev pub broad : ℕ
-broad = 33
-
--- the place of a word among names of which the first has place k; 0 for an unknown word
-abbrev pub place_in : ℕ → List (List ℕ) → List ℕ → ℕ
-place_in k [] w = 0
-place_in k (v ∷ l) w = cond (bytes_eq w v) k (place_in (suc k) l w)
-
--- the texts of the code's table of names, and a place in it, counted from 1; 0 for none
-abbrev pub texts : List (Bor (List ℕ)) → List (List ℕ)
+-- the code's table of names, with its texts
+abbrev pub texts : List (Bor (List ℕ) × Name) → List (List ℕ × Name)
 texts [] = []
-texts (x ∷ l) = x.now ∷ texts l
+texts (x ∷ l) = (x.0.now, x.1) ∷ texts l
 
-abbrev pub numbered : Option ℕ → ℕ
-numbered None = 0
-numbered (Some k) = suc k
-
-unfoldable pub name_of : List ℕ → ℕ
-name_of w = place_in 1 names w
+unfoldable pub name_of : List ℕ → Option Name
+name_of w = named_in names w
 
 -- "Numbers decimal or 0x hexadecimal": a byte's digit, 16 for a byte that is none
 unfoldable pub digit_of : ℕ → ℕ
@@ -124,14 +86,14 @@ value_of x = cond (ltb x limit) (Number x) Large
 -- what digits of a base are, after digits with the value x; a word with another byte is no number and unknown
 abbrev pub digits_from : ℕ → ℕ → List ℕ → Token
 digits_from base x [] = value_of x
-digits_from base x (b ∷ l) = cond (ltb (digit_of b) base) (digits_from base (capped (x * base + digit_of b)) l) (Word 0)
+digits_from base x (b ∷ l) = cond (ltb (digit_of b) base) (digits_from base (capped (x * base + digit_of b)) l) (Word None)
 
 unfoldable pub digits_of : ℕ → List ℕ → Token
 digits_of base l = digits_from base 0 l
 
 -- "after `0x` or `0X`, hexadecimal"; `0x` alone is no number
 abbrev pub hex_of : List ℕ → Token
-hex_of w = cond (ltb 2 (length w)) (digits_of 16 (drop 2 w)) (Word 0)
+hex_of w = cond (ltb 2 (length w)) (digits_of 16 (drop 2 w)) (Word None)
 
 abbrev pub is_hex : List ℕ → Bool
 is_hex w = eqb (get_or w 0 0) 48 && (eqb (get_or w 1 0) 120 || eqb (get_or w 1 0) 88)
@@ -151,11 +113,11 @@ unfoldable pub tokens_of : List ℕ → List Token
 tokens_of line = tokens_of_words (words_of line)
 
 -- the name of a line's first word
-abbrev pub kind_in : List Token → ℕ
-kind_in [] = 0
+abbrev pub kind_in : List Token → Option Name
+kind_in [] = None
 kind_in (Word k ∷ l) = k
-kind_in (Number x ∷ l) = 0
-kind_in (Large ∷ l) = 0
+kind_in (Number x ∷ l) = None
+kind_in (Large ∷ l) = None
 
-abbrev pub kind_of : List ℕ → ℕ
+abbrev pub kind_of : List ℕ → Option Name
 kind_of line = kind_in (tokens_of line)

@@ -1,38 +1,12 @@
 // The words of a line, one after the other, and what each of them is.
 #![tactic(auto)]
 
-ghost use Rattle.std.specs.Prelude.{◌≡◌, false, [], ◌∷◌, ◌+◌, ◌-◌, ◌<◌, ◌≤◌, length, take, drop, get_or, IfSome};
-ghost use Rattle.words.specs.Words.{is_blank, ends_word, texts, numbered, place_in, name_of, digit_of, digits_of, is_hex, token_of, limit, capped, value_of};
+ghost use Rattle.std.specs.Prelude.{◌≡◌, false, [], ◌∷◌, ◌+◌, ◌-◌, ◌<◌, ◌≤◌, length, take, drop, get_or};
+ghost use Rattle.words.specs.Words.{is_blank, ends_word, texts, named_in, name_of, digit_of, digits_of, is_hex, token_of, limit, capped, value_of};
+ghost use Rattle.words.specs.Names.{name_number};
 ghost use Rattle.words.specs.Cursors.{tokens_left, stepped};
 
-// The places of names among the names, from 1 on.
-pub const LOSE: u8 = 6;
-
-pub const NODES: u8 = 13;
-
-pub const ALL: u8 = 14;
-
-pub const HOLD: u8 = 15;
-
-pub const TIMES: u8 = 16;
-
-pub const LABEL: u8 = 17;
-
-pub const ACTIONS: u8 = 18;
-
-pub const USER: u8 = 19;
-
-pub const TO: u8 = 20;
-
-pub const SPELL: u8 = 21;
-
-pub const FILLERS: u8 = 22;
-
-pub const FIND: u8 = 23;
-
-pub const WITHIN: u8 = 24;
-
-pub const BROAD: u8 = 33;
+use charts::{Kind, Word};
 
 const LIMIT: u64 = 4294967296;
 
@@ -42,48 +16,92 @@ pub struct Cursor {
     pub at: usize,
 }
 
-// What a word is: a name by its place among the names (0: unknown), a number, or a number over 32 bits.
+// The words that have a meaning: the kinds of actions, the other words of runs, those that settings alone have, and those that questions alone have, the kinds of
+// reports last.
+#[derive(Clone, Copy, PartialEq, Eq)]
+pub enum Name {
+    Kind(Kind),
+    Nodes,
+    All,
+    Hold,
+    Times,
+    Label,
+    Actions,
+    User,
+    To,
+    Spell,
+    Fillers,
+    Find,
+    Within,
+    Report(Word),
+}
+
+impl Name {
+    // The place among the names, from 1 on.
+    pub fn number(self) -> u8
+        ensures { result ≡ name_number self }
+    {
+        match self {
+            Name::Kind(kind) => kind.number(),
+            Name::Nodes => 13,
+            Name::All => 14,
+            Name::Hold => 15,
+            Name::Times => 16,
+            Name::Label => 17,
+            Name::Actions => 18,
+            Name::User => 19,
+            Name::To => 20,
+            Name::Spell => 21,
+            Name::Fillers => 22,
+            Name::Find => 23,
+            Name::Within => 24,
+            Name::Report(word) => 25 + word as u8,
+        }
+    }
+}
+
+// What a word is: a name, or none that is known; a number, or a number over 32 bits.
 #[derive(Clone, Copy, PartialEq, Eq)]
 pub enum Token {
-    Word(u8),
+    Word(Option<Name>),
     Number(u32),
     Large,
 }
 
-const NAMES: [&[u8]; 33] = [
-    b"request",
-    b"arbitrate",
-    b"respond",
-    b"clock",
-    b"pass",
-    b"lose",
-    b"change",
-    b"grant",
-    b"gap",
-    b"reset",
-    b"ask",
-    b"decide",
-    b"nodes",
-    b"all",
-    b"hold",
-    b"*",
-    b"label",
-    b"actions",
-    b"user",
-    b"to",
-    b"spell",
-    b"fillers",
-    b"find",
-    b"within",
-    b"won",
-    b"lost",
-    b"sent",
-    b"ack",
-    b"miss",
-    b"drop",
-    b"good",
-    b"dcrc",
-    b"broad",
+const NAMES: [(&[u8], Name); 33] = [
+    (b"request", Name::Kind(Kind::Request)),
+    (b"arbitrate", Name::Kind(Kind::Arbitrate)),
+    (b"respond", Name::Kind(Kind::Respond)),
+    (b"clock", Name::Kind(Kind::Clock)),
+    (b"pass", Name::Kind(Kind::Pass)),
+    (b"lose", Name::Kind(Kind::Lose)),
+    (b"change", Name::Kind(Kind::Change)),
+    (b"grant", Name::Kind(Kind::Grant)),
+    (b"gap", Name::Kind(Kind::Gap)),
+    (b"reset", Name::Kind(Kind::Reset)),
+    (b"ask", Name::Kind(Kind::Ask)),
+    (b"decide", Name::Kind(Kind::Decide)),
+    (b"nodes", Name::Nodes),
+    (b"all", Name::All),
+    (b"hold", Name::Hold),
+    (b"*", Name::Times),
+    (b"label", Name::Label),
+    (b"actions", Name::Actions),
+    (b"user", Name::User),
+    (b"to", Name::To),
+    (b"spell", Name::Spell),
+    (b"fillers", Name::Fillers),
+    (b"find", Name::Find),
+    (b"within", Name::Within),
+    (b"won", Name::Report(Word::Won)),
+    (b"lost", Name::Report(Word::Lost)),
+    (b"sent", Name::Report(Word::Sent)),
+    (b"ack", Name::Report(Word::Ack)),
+    (b"miss", Name::Report(Word::Miss)),
+    (b"drop", Name::Report(Word::Drop)),
+    (b"good", Name::Report(Word::Good)),
+    (b"dcrc", Name::Report(Word::Dcrc)),
+    (b"broad", Name::Report(Word::Broad)),
 ];
 
 pub fn is_blank(b: u8) -> bool
@@ -98,23 +116,20 @@ fn ends_word(b: u8) -> bool
     is_blank(b) || b == b'#'
 }
 
-// The place of a word among some names.
-fn place(names: &[&[u8]], w: &[u8]) -> Option<usize>
-    ensures value { numbered result ≡ place_in 1 (texts names.now) w.now }
-    ensures upper_bound { IfSome result (λ k. k < length names.now) }
+// The name that a text stands for in a table.
+fn look_up(names: &[(&[u8], Name)], w: &[u8]) -> Option<Name>
+    ensures { result ≡ named_in (texts names.now) w.now }
 {
-    names.iter().position(|name| w == *name)
+    let (_, name) = names.iter().find(|(text, _)| w == *text)?;
+    Some(*name)
 }
 
-// A word's name: its place among the names from 1, or 0.
+// A word's name.
 #[tactic(auto, unfolding(crate::specs::Words::name_of))]
-pub fn name(w: &[u8]) -> u8
+pub fn named(w: &[u8]) -> Option<Name>
     ensures { result ≡ name_of w.now }
 {
-    match place(&NAMES, w) {
-        Some(k) => k as u8 + 1,
-        None => 0,
-    }
+    look_up(&NAMES, w)
 }
 
 // A byte's digit; 16 for a byte that is none.
@@ -157,7 +172,7 @@ fn number(base: u8, w: &[u8]) -> Token
     for b in w {
         let d = digit(*b);
         if base <= d {
-            return Token::Word(0);
+            return Token::Word(None);
         }
         x = cap(x * (base as u64) + d as u64);
     }
@@ -177,13 +192,13 @@ fn token_of(w: &[u8]) -> Token
     ensures { result ≡ token_of w.now }
 {
     if 10 <= digit(w[0]) {
-        return Token::Word(name(w));
+        return Token::Word(named(w));
     }
     if !is_hex(w) {
         return number(10, w);
     }
     if w.len() <= 2 {
-        return Token::Word(0);
+        return Token::Word(None);
     }
     number(16, &w[2..])
 }
