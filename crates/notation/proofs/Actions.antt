@@ -11,10 +11,15 @@ use Rattle.charts.specs.Numbers as N
 use Rattle.charts.specs.Signals.{everybody}
 use Rattle.charts.specs.declared.Action.{Action}
 use Rattle.charts.specs.declared.Move.{Move}
-use Rattle.charts.specs.declared.Decoded.TheVariants as D
+use Rattle.std.proofs.Common.{Some, Ok, Err}
+use Rattle.charts.specs.declared.Kind.{Kind}
+use Rattle.charts.specs.declared.Kind.TheVariants as K
+use Rattle.charts.specs.declared.Refusal.TheVariants as R
+use Rattle.charts.specs.Kinds.{kind_number}
+use Rattle.words.specs.declared.Name.TheVariants as V
 use Rattle.charts.specs.Records.{is_kind, names_node, names_address, names_answer, names_packet, clean, move_of, bad_node, bad_address, bad_label, requests_itself, read}
 use Rattle.charts.specs.Layout.{Fits}
-use Rattle.runfile.proofs.Loops.{and_left, and_right}
+use Rattle.charts.proofs.Tools.{and-true}
 use Rattle.transcript.specs.Text.{ascii, decimal}
 use Rattle.transcript.proofs.Decimals.{decimal_short}
 use Rattle.words.specs.declared.Token.{Token}
@@ -23,7 +28,7 @@ use Rattle.notation.specs.declared.Text.TheVariants.{Run}
 use Rattle.notation.specs.declared.Line.TheVariants.{Acts}
 use Rattle.words.specs.Words.{token_of, name_of, digit_of}
 use Rattle.fields.specs.Fields.{got, option_in, said_in, number_in, address_in, address_or_none}
-use Rattle.notation.specs.Grammar.{record_of, ending_of, request_of, node_of, respond_of, change_of, action_of, rest_of, named_of, said_by, line_of}
+use Rattle.notation.specs.Grammar.{record_of, ending_of, request_of, node_of, respond_of, change_of, action_of, named_of, said_by, line_of}
 use Rattle.words.specs.Lines.{spaced}
 use Rattle.transcript.specs.Printed.{address_word, label_words, hold_word, change_word, words_for}
 use Rattle.words.proofs.Spaced.{Good, good_by}
@@ -44,14 +49,14 @@ record Shown (a : Action) : Type 0 where
   clear : clean a ≡ true
   answer : (ltb a.ack 16 && ltb a.hold 2) ≡ true
 
-shown : (n : ℕ) (a : Action) (m : Move) → read n a ≡ D.Accepted m → Shown a
+shown : (n : ℕ) (a : Action) (m : Move) → read n a ≡ Ok m → Shown a
 unfolding read
 shown n a m h =
     go (is_kind a.kind) (clean a) (bad_node n a) (bad_address n a) (bad_label a) (requests_itself a) (ltb a.ack 16 && ltb a.hold 2) refl refl refl h
   where
     go : (p q r s u o t : Bool) → is_kind a.kind ≡ p → clean a ≡ q → (ltb a.ack 16 && ltb a.hold 2) ≡ t
-        → cond (not p) (D.Refused N.wrong_kind) (cond (not q) (D.Refused N.stray_field) (cond r (D.Refused N.wrong_node) (cond s (D.Refused N.wrong_address)
-        (cond u (D.Refused N.wrong_label) (cond o (D.Refused N.to_itself) (cond (not t) (D.Refused N.wrong_answer) (D.Accepted (move_of a)))))))) ≡ D.Accepted m
+        → cond (not p) (Err R.WrongKind) (cond (not q) (Err R.StrayField) (cond r (Err R.WrongNode) (cond s (Err R.WrongAddress)
+        (cond u (Err R.WrongLabel) (cond o (Err R.ToItself) (cond (not t) (Err R.WrongAnswer) (Ok (move_of a)))))))) ≡ Ok m
         → Shown a
     go true true false false false false true ep eq et e = record { kind = ep; clear = eq; answer = et }
     go true true false false false false false ep eq et e = absurd (let z : ◌≡◌ {A = ℕ} 0 1 = cc in omega arith)
@@ -82,50 +87,50 @@ zeros : (a : Action) → clean a ≡ true → Zeros a
 unfolding clean
 zeros a h =
     let k : ℕ = a.kind in
-    let r6 = and_right (eqb a.byte6 0) _ h in
-    let r7 = and_right (eqb a.byte7 0) _ r6 in
-    let rn = and_right (names_node k || eqb a.node 0) _ r7 in
-    let ra = and_right (names_address k || eqb a.address 0) _ rn in
-    let answer = named_or (names_answer k) (eqb a.ack 0 && eqb a.hold 0) (and_left (names_answer k || (eqb a.ack 0 && eqb a.hold 0)) _ ra) in
-    let packet = named_or (names_packet k) (eqb a.label 0 && (eqb a.header 0 && eqb a.datum 0)) (and_right (names_answer k || (eqb a.ack 0 && eqb a.hold 0)) _ ra) in
+    let r6 = (and-true (eqb a.byte6 0) _ h).1 in
+    let r7 = (and-true (eqb a.byte7 0) _ r6).1 in
+    let rn = (and-true (names_node k || eqb a.node 0) _ r7).1 in
+    let ra = (and-true (names_address k || eqb a.address 0) _ rn).1 in
+    let answer = named_or (names_answer k) (eqb a.ack 0 && eqb a.hold 0) ((and-true (names_answer k || (eqb a.ack 0 && eqb a.hold 0)) _ ra).0) in
+    let packet = named_or (names_packet k) (eqb a.label 0 && (eqb a.header 0 && eqb a.datum 0)) ((and-true (names_answer k || (eqb a.ack 0 && eqb a.hold 0)) _ ra).1) in
     record {
-      six = eqb-true a.byte6 0 (and_left (eqb a.byte6 0) _ h);
-      seven = eqb-true a.byte7 0 (and_left (eqb a.byte7 0) _ r6);
-      node = λ e. eqb-true a.node 0 (named_or (names_node k) _ (and_left (names_node k || eqb a.node 0) _ r7) e);
-      address = λ e. eqb-true a.address 0 (named_or (names_address k) _ (and_left (names_address k || eqb a.address 0) _ rn) e);
-      ack = λ e. eqb-true a.ack 0 (and_left (eqb a.ack 0) _ (answer e));
-      hold = λ e. eqb-true a.hold 0 (and_right (eqb a.ack 0) _ (answer e));
-      label = λ e. eqb-true a.label 0 (and_left (eqb a.label 0) _ (packet e));
-      header = λ e. eqb-true a.header 0 (and_left (eqb a.header 0) _ (and_right (eqb a.label 0) _ (packet e)));
-      datum = λ e. eqb-true a.datum 0 (and_right (eqb a.header 0) _ (and_right (eqb a.label 0) _ (packet e)));
+      six = eqb-true a.byte6 0 ((and-true (eqb a.byte6 0) _ h).0);
+      seven = eqb-true a.byte7 0 ((and-true (eqb a.byte7 0) _ r6).0);
+      node = λ e. eqb-true a.node 0 (named_or (names_node k) _ ((and-true (names_node k || eqb a.node 0) _ r7).0) e);
+      address = λ e. eqb-true a.address 0 (named_or (names_address k) _ ((and-true (names_address k || eqb a.address 0) _ rn).0) e);
+      ack = λ e. eqb-true a.ack 0 ((and-true (eqb a.ack 0) _ (answer e)).0);
+      hold = λ e. eqb-true a.hold 0 ((and-true (eqb a.ack 0) _ (answer e)).1);
+      label = λ e. eqb-true a.label 0 ((and-true (eqb a.label 0) _ (packet e)).0);
+      header = λ e. eqb-true a.header 0 ((and-true (eqb a.header 0) _ ((and-true (eqb a.label 0) _ (packet e)).1)).0);
+      datum = λ e. eqb-true a.datum 0 ((and-true (eqb a.header 0) _ ((and-true (eqb a.label 0) _ (packet e)).1)).1);
     }
 
 -- the names as they are read
-token_request : token_of (ascii "request") ≡ Word 1
+token_request : token_of (ascii "request") ≡ Word (Some (V.Kind K.Request))
 unfolding token_of name_of digit_of
 token_request = refl
 
-token_respond : token_of (ascii "respond") ≡ Word 3
+token_respond : token_of (ascii "respond") ≡ Word (Some (V.Kind K.Respond))
 unfolding token_of name_of digit_of
 token_respond = refl
 
-token_change : token_of (ascii "change") ≡ Word 7
+token_change : token_of (ascii "change") ≡ Word (Some (V.Kind K.Change))
 unfolding token_of name_of digit_of
 token_change = refl
 
-token_nodes : token_of (ascii "nodes") ≡ Word 13
+token_nodes : token_of (ascii "nodes") ≡ Word (Some V.Nodes)
 unfolding token_of name_of digit_of
 token_nodes = refl
 
-token_all : token_of (ascii "all") ≡ Word 14
+token_all : token_of (ascii "all") ≡ Word (Some V.All)
 unfolding token_of name_of digit_of
 token_all = refl
 
-token_hold : token_of (ascii "hold") ≡ Word 15
+token_hold : token_of (ascii "hold") ≡ Word (Some V.Hold)
 unfolding token_of name_of digit_of
 token_hold = refl
 
-token_label : token_of (ascii "label") ≡ Word 17
+token_label : token_of (ascii "label") ≡ Word (Some V.Label)
 unfolding token_of name_of digit_of
 token_label = refl
 
@@ -133,7 +138,7 @@ token_label = refl
 record Address (x : ℕ) (w : List ℕ) : Type 0 where
   good : Good w
   short : length w ≤ 3
-  token : token_of w ≡ cond (eqb x everybody) (Word 14) (Number x)
+  token : token_of w ≡ cond (eqb x everybody) (Word (Some V.All)) (Number x)
 
 address_word_lem : (x : ℕ) → x < 256 → Address x (address_word x)
 unfolding address_word
@@ -144,14 +149,14 @@ address_word_lem x h = go (eqb x everybody) refl
     go false e = record { good = decimal_good x; short = decimal_short 2 x (omega arith); token = rw e (token_decimal x (omega arith)) }
 
 -- what the words of each form say; the label of a request is what l, the words after its data, say
-say_request : (node address label header datum : ℕ) (l : List Token) → node < 256 → address < 256 → header < 4294967296 → datum < 4294967296 → said_in 17 l ≡ got label []
-    → said_by Run (Word 1 ∷ Number node ∷ cond (eqb address everybody) (Word 14) (Number address) ∷ Number header ∷ Number datum ∷ l)
-    ≡ Acts (record_of 1 node address 0 0 label header datum) 1
-unfolding said_by named_of rest_of action_of request_of number_in address_in ending_of
+say_request : (node address label header datum : ℕ) (l : List Token) → node < 256 → address < 256 → header < 4294967296 → datum < 4294967296 → said_in V.Label l ≡ got label []
+    → said_by Run (Word (Some (V.Kind K.Request)) ∷ Number node ∷ cond (eqb address everybody) (Word (Some V.All)) (Number address) ∷ Number header ∷ Number datum ∷ l)
+    ≡ Ok (Acts (record_of 1 node address 0 0 label header datum) 1)
+unfolding said_by named_of action_of request_of number_in address_in ending_of
 say_request node address label header datum l p q r s t = go (eqb address everybody) refl
   where
     go : (b : Bool) → eqb address everybody ≡ b
-        → said_by Run (Word 1 ∷ Number node ∷ cond b (Word 14) (Number address) ∷ Number header ∷ Number datum ∷ l) ≡ Acts (record_of 1 node address 0 0 label header datum) 1
+        → said_by Run (Word (Some (V.Kind K.Request)) ∷ Number node ∷ cond b (Word (Some V.All)) (Number address) ∷ Number header ∷ Number datum ∷ l) ≡ Ok (Acts (record_of 1 node address 0 0 label header datum) 1)
     go true e =
         let n1 = le-leb node 255 (omega arith) in
         let n3 = le-leb header 4294967295 (omega arith) in
@@ -164,33 +169,33 @@ say_request node address label header datum l p q r s t = go (eqb address everyb
         let n4 = le-leb datum 4294967295 (omega arith) in
         rw (n1, n2, n3, n4, t)
 
-no_label : said_in 17 [] ≡ got 0 []
+no_label : said_in V.Label [] ≡ got 0 []
 unfolding option_in
 no_label = refl
 
-say_label : (label : ℕ) → label < 256 → said_in 17 (Word 17 ∷ Number label ∷ []) ≡ got label []
+say_label : (label : ℕ) → label < 256 → said_in V.Label (Word (Some V.Label) ∷ Number label ∷ []) ≡ got label []
 unfolding option_in number_in
 say_label label p = rw (le-leb label 255 (omega arith))
 
-say_respond : (node ack : ℕ) → node < 256 → ack < 256 → said_by Run (Word 3 ∷ Number node ∷ Number ack ∷ []) ≡ Acts (record_of 3 node 0 ack 0 0 0 0) 1
-unfolding said_by named_of rest_of action_of respond_of number_in option_in ending_of
+say_respond : (node ack : ℕ) → node < 256 → ack < 256 → said_by Run (Word (Some (V.Kind K.Respond)) ∷ Number node ∷ Number ack ∷ []) ≡ Ok (Acts (record_of 3 node 0 ack 0 0 0 0) 1)
+unfolding said_by named_of action_of respond_of number_in option_in ending_of
 say_respond node ack p q = rw (le-leb node 255 (omega arith), le-leb ack 255 (omega arith))
 
-say_hold : (node ack : ℕ) → node < 256 → ack < 256 → said_by Run (Word 3 ∷ Number node ∷ Number ack ∷ Word 15 ∷ []) ≡ Acts (record_of 3 node 0 ack 1 0 0 0) 1
-unfolding said_by named_of rest_of action_of respond_of number_in option_in ending_of
+say_hold : (node ack : ℕ) → node < 256 → ack < 256 → said_by Run (Word (Some (V.Kind K.Respond)) ∷ Number node ∷ Number ack ∷ Word (Some V.Hold) ∷ []) ≡ Ok (Acts (record_of 3 node 0 ack 1 0 0 0) 1)
+unfolding said_by named_of action_of respond_of number_in option_in ending_of
 say_hold node ack p q = rw (le-leb node 255 (omega arith), le-leb ack 255 (omega arith))
 
 say_change : (address : ℕ) → address < 256
-    → said_by Run (Word 7 ∷ cond (eqb address everybody) (Word 14) (Number address) ∷ []) ≡ Acts (record_of 7 0 address 0 0 0 0 0) 1
-unfolding said_by named_of rest_of action_of change_of address_or_none ending_of
+    → said_by Run (Word (Some (V.Kind K.Change)) ∷ cond (eqb address everybody) (Word (Some V.All)) (Number address) ∷ []) ≡ Ok (Acts (record_of 7 0 address 0 0 0 0 0) 1)
+unfolding said_by named_of action_of change_of address_or_none ending_of
 say_change address p = go (eqb address everybody) refl
   where
-    go : (b : Bool) → eqb address everybody ≡ b → said_by Run (Word 7 ∷ cond b (Word 14) (Number address) ∷ []) ≡ Acts (record_of 7 0 address 0 0 0 0 0) 1
+    go : (b : Bool) → eqb address everybody ≡ b → said_by Run (Word (Some (V.Kind K.Change)) ∷ cond b (Word (Some V.All)) (Number address) ∷ []) ≡ Ok (Acts (record_of 7 0 address 0 0 0 0 0) 1)
     go true e = rw (eqb-true address everybody e)
     go false e = rw (le-leb address 255 (omega arith))
 
-bare_change : said_by Run (Word 7 ∷ []) ≡ Acts (record_of 7 0 0 0 0 0 0 0) 1
-unfolding said_by named_of rest_of action_of change_of address_or_none ending_of
+bare_change : said_by Run (Word (Some (V.Kind K.Change)) ∷ []) ≡ Ok (Acts (record_of 7 0 0 0 0 0 0 0) 1)
+unfolding said_by named_of action_of change_of address_or_none ending_of
 bare_change = refl
 
 -- a kind's record, where the other fields are 0
@@ -199,29 +204,29 @@ module _ (a : Action) (f : Fits a) (s : Shown a) where
   z = zeros a s.clear
 
   -- "`pass`, `lose`, […] `grant`, `gap`, `reset`"
-  bare : (k : ℕ) (w : List ℕ) → a.kind ≡ k → words_for a ≡ w ∷ [] → Good w → length w ≤ 9 → token_of w ≡ Word k
-      → said_by Run (Word k ∷ []) ≡ Acts (record_of k 0 0 0 0 0 0 0) 1
-      → names_node k ≡ false → names_address k ≡ false → names_answer k ≡ false → names_packet k ≡ false → line_of Run (spaced (words_for a)) ≡ Acts a 1
-  bare k w e words good short token says nn na nk np =
+  bare : (j : Kind) (w : List ℕ) → a.kind ≡ kind_number j → words_for a ≡ w ∷ [] → Good w → length w ≤ 9 → token_of w ≡ Word (Some (V.Kind j))
+      → said_by Run (Word (Some (V.Kind j)) ∷ []) ≡ Ok (Acts (record_of (kind_number j) 0 0 0 0 0 0 0) 1)
+      → names_node (kind_number j) ≡ false → names_address (kind_number j) ≡ false → names_answer (kind_number j) ≡ false → names_packet (kind_number j) ≡ false → line_of Run (spaced (words_for a)) ≡ Ok (Acts a 1)
+  bare j w e words good short token says nn na nk np =
       rw words
       (said_line Run (w ∷ []) (good, tt) (omega arith)
       ∙ (rw token says
-      ∙ ap (λ (x : Action). Acts x 1)
-      (same_action a k 0 0 0 0 0 0 0 0 0 e (z.node (rw e nn)) (z.address (rw e na)) (z.ack (rw e nk)) (z.hold (rw e nk)) (z.label (rw e np)) z.six z.seven
+      ∙ ap (λ (x : Action). Ok (Acts x 1))
+      (same_action a (kind_number j) 0 0 0 0 0 0 0 0 0 e (z.node (rw e nn)) (z.address (rw e na)) (z.ack (rw e nk)) (z.hold (rw e nk)) (z.label (rw e np)) z.six z.seven
       (z.header (rw e np)) (z.datum (rw e np)))))
 
   -- "`arbitrate 0`", "`clock 0`"; "`ask NODE`", "`decide NODE`"
-  of_node : (k : ℕ) (w : List ℕ) → a.kind ≡ k → words_for a ≡ w ∷ decimal a.node ∷ [] → Good w → length w ≤ 9 → token_of w ≡ Word k
-      → said_by Run (Word k ∷ Number a.node ∷ []) ≡ Acts (record_of k a.node 0 0 0 0 0 0) 1
-      → names_address k ≡ false → names_answer k ≡ false → names_packet k ≡ false → line_of Run (spaced (words_for a)) ≡ Acts a 1
-  of_node k w e words good short token says na nk np =
+  of_node : (j : Kind) (w : List ℕ) → a.kind ≡ kind_number j → words_for a ≡ w ∷ decimal a.node ∷ [] → Good w → length w ≤ 9 → token_of w ≡ Word (Some (V.Kind j))
+      → said_by Run (Word (Some (V.Kind j)) ∷ Number a.node ∷ []) ≡ Ok (Acts (record_of (kind_number j) a.node 0 0 0 0 0 0) 1)
+      → names_address (kind_number j) ≡ false → names_answer (kind_number j) ≡ false → names_packet (kind_number j) ≡ false → line_of Run (spaced (words_for a)) ≡ Ok (Acts a 1)
+  of_node j w e words good short token says na nk np =
       let small = f.node_fits in
       let few = decimal_short 2 a.node (omega arith) in
       rw words
       (said_line Run (w ∷ decimal a.node ∷ []) (good, (decimal_good a.node, tt)) (omega arith)
       ∙ (rw (token, token_decimal a.node (omega arith)) says
-      ∙ ap (λ (x : Action). Acts x 1)
-      (same_action a k a.node 0 0 0 0 0 0 0 0 e refl (z.address (rw e na)) (z.ack (rw e nk)) (z.hold (rw e nk)) (z.label (rw e np)) z.six z.seven
+      ∙ ap (λ (x : Action). Ok (Acts x 1))
+      (same_action a (kind_number j) a.node 0 0 0 0 0 0 0 0 e refl (z.address (rw e na)) (z.ack (rw e nk)) (z.hold (rw e nk)) (z.label (rw e np)) z.six z.seven
       (z.header (rw e np)) (z.datum (rw e np)))))
 
   request_words_lem : a.kind ≡ 1
@@ -229,7 +234,7 @@ module _ (a : Action) (f : Fits a) (s : Shown a) where
   unfolding words_for
   request_words_lem e = rw e
 
-  request : a.kind ≡ 1 → line_of Run (spaced (words_for a)) ≡ Acts a 1
+  request : a.kind ≡ 1 → line_of Run (spaced (words_for a)) ≡ Ok (Acts a 1)
   request e = rw (request_words_lem e) (go (eqb a.label 0) refl)
     where
       to : Address a.address (address_word a.address)
@@ -239,7 +244,7 @@ module _ (a : Action) (f : Fits a) (s : Shown a) where
       whole label h = same_action a 1 a.node a.address 0 0 label 0 0 a.header a.datum e refl refl (z.ack (rw e)) (z.hold (rw e)) h z.six z.seven refl refl
 
       go : (b : Bool) → eqb a.label 0 ≡ b
-          → line_of Run (spaced (ascii "request" ∷ decimal a.node ∷ address_word a.address ∷ decimal a.header ∷ decimal a.datum ∷ cond b [] (ascii "label" ∷ decimal a.label ∷ []))) ≡ Acts a 1
+          → line_of Run (spaced (ascii "request" ∷ decimal a.node ∷ address_word a.address ∷ decimal a.header ∷ decimal a.datum ∷ cond b [] (ascii "label" ∷ decimal a.label ∷ []))) ≡ Ok (Acts a 1)
       go true h =
           let sn = f.node_fits in
           let sh = f.header_fits in
@@ -252,7 +257,7 @@ module _ (a : Action) (f : Fits a) (s : Shown a) where
           (good_by _ _ refl, (decimal_good a.node, (to.good, (decimal_good a.header, (decimal_good a.datum, tt))))) (omega arith)
           ∙ (rw (token_request, token_decimal a.node (omega arith), to.token, token_decimal a.header sh, token_decimal a.datum sd)
           (say_request a.node a.address 0 a.header a.datum [] sn f.address_fits sh sd no_label)
-          ∙ ap (λ (x : Action). Acts x 1) (whole 0 (eqb-true a.label 0 h)))
+          ∙ ap (λ (x : Action). Ok (Acts x 1)) (whole 0 (eqb-true a.label 0 h)))
       go false h =
           let sn = f.node_fits in
           let sh = f.header_fits in
@@ -267,13 +272,13 @@ module _ (a : Action) (f : Fits a) (s : Shown a) where
           (good_by _ _ refl, (decimal_good a.node, (to.good, (decimal_good a.header, (decimal_good a.datum, (good_by _ _ refl, (decimal_good a.label, tt))))))) (omega arith)
           ∙ (rw (token_request, token_decimal a.node (omega arith), to.token, token_decimal a.header sh, token_decimal a.datum sd, token_label, token_decimal a.label (omega arith))
           (say_request a.node a.address a.label a.header a.datum _ sn f.address_fits sh sd (say_label a.label sl))
-          ∙ ap (λ (x : Action). Acts x 1) (whole a.label refl))
+          ∙ ap (λ (x : Action). Ok (Acts x 1)) (whole a.label refl))
 
   respond_words_lem : a.kind ≡ 3 → words_for a ≡ ascii "respond" ∷ decimal a.node ∷ decimal a.ack ∷ hold_word a.hold
   unfolding words_for
   respond_words_lem e = rw e
 
-  respond : a.kind ≡ 3 → line_of Run (spaced (words_for a)) ≡ Acts a 1
+  respond : a.kind ≡ 3 → line_of Run (spaced (words_for a)) ≡ Ok (Acts a 1)
   respond e = rw (respond_words_lem e) (go (eqb a.hold 0) refl)
     where
       sn : a.node < 256
@@ -283,10 +288,10 @@ module _ (a : Action) (f : Fits a) (s : Shown a) where
       sk = f.ack_fits
 
       held : a.hold < 2
-      held = ltb-true a.hold 2 (and_right (ltb a.ack 16) _ s.answer)
+      held = ltb-true a.hold 2 ((and-true (ltb a.ack 16) _ s.answer).1)
 
       go : (b : Bool) → eqb a.hold 0 ≡ b
-          → line_of Run (spaced (ascii "respond" ∷ decimal a.node ∷ decimal a.ack ∷ cond b [] (ascii "hold" ∷ []))) ≡ Acts a 1
+          → line_of Run (spaced (ascii "respond" ∷ decimal a.node ∷ decimal a.ack ∷ cond b [] (ascii "hold" ∷ []))) ≡ Ok (Acts a 1)
       go true h =
           let hn = sn in
           let hk = sk in
@@ -294,7 +299,7 @@ module _ (a : Action) (f : Fits a) (s : Shown a) where
           let l2 = decimal_short 2 a.ack (omega arith) in
           said_line Run (ascii "respond" ∷ decimal a.node ∷ decimal a.ack ∷ []) (good_by _ _ refl, (decimal_good a.node, (decimal_good a.ack, tt))) (omega arith)
           ∙ (rw (token_respond, token_decimal a.node (omega arith), token_decimal a.ack (omega arith)) (say_respond a.node a.ack sn sk)
-          ∙ ap (λ (x : Action). Acts x 1)
+          ∙ ap (λ (x : Action). Ok (Acts x 1))
           (same_action a 3 a.node 0 a.ack 0 0 0 0 0 0 e refl (z.address (rw e)) refl (eqb-true a.hold 0 h) (z.label (rw e)) z.six z.seven
           (z.header (rw e)) (z.datum (rw e))))
       go false h =
@@ -308,29 +313,29 @@ module _ (a : Action) (f : Fits a) (s : Shown a) where
           said_line Run (ascii "respond" ∷ decimal a.node ∷ decimal a.ack ∷ ascii "hold" ∷ [])
           (good_by _ _ refl, (decimal_good a.node, (decimal_good a.ack, (good_by _ _ refl, tt)))) (omega arith)
           ∙ (rw (token_respond, token_decimal a.node (omega arith), token_decimal a.ack (omega arith), token_hold) (say_hold a.node a.ack sn sk)
-          ∙ ap (λ (x : Action). Acts x 1)
+          ∙ ap (λ (x : Action). Ok (Acts x 1))
           (same_action a 3 a.node 0 a.ack 1 0 0 0 0 0 e refl (z.address (rw e)) refl one (z.label (rw e)) z.six z.seven (z.header (rw e)) (z.datum (rw e))))
 
   change_words : a.kind ≡ 7 → words_for a ≡ ascii "change" ∷ change_word a.address
   unfolding words_for
   change_words e = rw e
 
-  change : a.kind ≡ 7 → line_of Run (spaced (words_for a)) ≡ Acts a 1
+  change : a.kind ≡ 7 → line_of Run (spaced (words_for a)) ≡ Ok (Acts a 1)
   change e = rw (change_words e) (go (eqb a.address 0) refl)
     where
       whole : (x : ℕ) → a.address ≡ x → record_of 7 0 x 0 0 0 0 0 ≡ a
       whole x h =
           same_action a 7 0 x 0 0 0 0 0 0 0 e (z.node (rw e)) h (z.ack (rw e)) (z.hold (rw e)) (z.label (rw e)) z.six z.seven (z.header (rw e)) (z.datum (rw e))
 
-      go : (b : Bool) → eqb a.address 0 ≡ b → line_of Run (spaced (ascii "change" ∷ cond b [] (address_word a.address ∷ []))) ≡ Acts a 1
+      go : (b : Bool) → eqb a.address 0 ≡ b → line_of Run (spaced (ascii "change" ∷ cond b [] (address_word a.address ∷ []))) ≡ Ok (Acts a 1)
       go true h =
           said_line Run (ascii "change" ∷ []) (good_by _ _ refl, tt) (omega arith)
-          ∙ (rw token_change bare_change ∙ ap (λ (x : Action). Acts x 1) (whole 0 (eqb-true a.address 0 h)))
+          ∙ (rw token_change bare_change ∙ ap (λ (x : Action). Ok (Acts x 1)) (whole 0 (eqb-true a.address 0 h)))
       go false h =
           let to = address_word_lem a.address f.address_fits in
           let short = to.short in
           said_line Run (ascii "change" ∷ address_word a.address ∷ []) (good_by _ _ refl, (to.good, tt)) (omega arith)
-          ∙ (rw (token_change, to.token) (say_change a.address f.address_fits) ∙ ap (λ (x : Action). Acts x 1) (whole a.address refl))
+          ∙ (rw (token_change, to.token) (say_change a.address f.address_fits) ∙ ap (λ (x : Action). Ok (Acts x 1)) (whole a.address refl))
 
 -- a property of the twelve kinds
 twelve : (P : ℕ → Type 0) → P 1 → P 2 → P 3 → P 4 → P 5 → P 6 → P 7 → P 8 → P 9 → P 10 → P 11 → P 12 → (k : ℕ) → is_kind k ≡ true → P k
@@ -348,26 +353,26 @@ twelve P p1 p2 p3 p4 p5 p6 p7 p8 p9 p10 p11 p12 (suc (suc (suc (suc (suc (suc (s
 twelve P p1 p2 p3 p4 p5 p6 p7 p8 p9 p10 p11 p12 (suc (suc (suc (suc (suc (suc (suc (suc (suc (suc (suc zero))))))))))) h = p11
 twelve P p1 p2 p3 p4 p5 p6 p7 p8 p9 p10 p11 p12 (suc (suc (suc (suc (suc (suc (suc (suc (suc (suc (suc (suc zero)))))))))))) h = p12
 twelve P p1 p2 p3 p4 p5 p6 p7 p8 p9 p10 p11 p12 (suc (suc (suc (suc (suc (suc (suc (suc (suc (suc (suc (suc (suc k))))))))))))) h =
-    absurd (let small = ltb-true (suc (suc (suc (suc (suc (suc (suc (suc (suc (suc (suc (suc (suc k))))))))))))) 13 (and_right (ltb 0 (suc (suc (suc (suc (suc (suc (suc (suc (suc (suc (suc (suc (suc k)))))))))))))) _ h) in omega arith)
+    absurd (let small = ltb-true (suc (suc (suc (suc (suc (suc (suc (suc (suc (suc (suc (suc (suc k))))))))))))) 13 ((and-true (ltb 0 (suc (suc (suc (suc (suc (suc (suc (suc (suc (suc (suc (suc (suc k)))))))))))))) _ h).1) in omega arith)
 
 -- for every action record that the writer takes for some n, its printed line says that action, once
-pub line_back : (n : ℕ) (a : Action) (m : Move) → Fits a → read n a ≡ D.Accepted m → line_of Run (spaced (words_for a)) ≡ Acts a 1
-unfolding words_for said_by named_of rest_of action_of node_of number_in ending_of token_of name_of digit_of
+pub line_back : (n : ℕ) (a : Action) (m : Move) → Fits a → read n a ≡ Ok m → line_of Run (spaced (words_for a)) ≡ Ok (Acts a 1)
+unfolding words_for said_by named_of action_of node_of number_in ending_of token_of name_of digit_of
 line_back n a m f h =
     let s = shown n a m h in
     let small = f.node_fits in
     let fits = le-leb a.node 255 (omega arith) in
-    twelve (λ (k : ℕ). a.kind ≡ k → line_of Run (spaced (words_for a)) ≡ Acts a 1)
+    twelve (λ (k : ℕ). a.kind ≡ k → line_of Run (spaced (words_for a)) ≡ Ok (Acts a 1))
     (request a f s)
-    (λ e. of_node a f s 2 (ascii "arbitrate") e (rw e) (good_by _ _ refl) (omega arith) refl (rw fits) refl refl refl)
+    (λ e. of_node a f s K.Arbitrate (ascii "arbitrate") e (rw e) (good_by _ _ refl) (omega arith) refl (rw fits) refl refl refl)
     (respond a f s)
-    (λ e. of_node a f s 4 (ascii "clock") e (rw e) (good_by _ _ refl) (omega arith) refl (rw fits) refl refl refl)
-    (λ e. bare a f s 5 (ascii "pass") e (rw e) (good_by _ _ refl) (omega arith) refl refl refl refl refl refl)
-    (λ e. bare a f s 6 (ascii "lose") e (rw e) (good_by _ _ refl) (omega arith) refl refl refl refl refl refl)
+    (λ e. of_node a f s K.Clock (ascii "clock") e (rw e) (good_by _ _ refl) (omega arith) refl (rw fits) refl refl refl)
+    (λ e. bare a f s K.Pass (ascii "pass") e (rw e) (good_by _ _ refl) (omega arith) refl refl refl refl refl refl)
+    (λ e. bare a f s K.Lose (ascii "lose") e (rw e) (good_by _ _ refl) (omega arith) refl refl refl refl refl refl)
     (change a f s)
-    (λ e. bare a f s 8 (ascii "grant") e (rw e) (good_by _ _ refl) (omega arith) refl refl refl refl refl refl)
-    (λ e. bare a f s 9 (ascii "gap") e (rw e) (good_by _ _ refl) (omega arith) refl refl refl refl refl refl)
-    (λ e. bare a f s 10 (ascii "reset") e (rw e) (good_by _ _ refl) (omega arith) refl refl refl refl refl refl)
-    (λ e. of_node a f s 11 (ascii "ask") e (rw e) (good_by _ _ refl) (omega arith) refl (rw fits) refl refl refl)
-    (λ e. of_node a f s 12 (ascii "decide") e (rw e) (good_by _ _ refl) (omega arith) refl (rw fits) refl refl refl)
+    (λ e. bare a f s K.Grant (ascii "grant") e (rw e) (good_by _ _ refl) (omega arith) refl refl refl refl refl refl)
+    (λ e. bare a f s K.Gap (ascii "gap") e (rw e) (good_by _ _ refl) (omega arith) refl refl refl refl refl refl)
+    (λ e. bare a f s K.Reset (ascii "reset") e (rw e) (good_by _ _ refl) (omega arith) refl refl refl refl refl refl)
+    (λ e. of_node a f s K.Ask (ascii "ask") e (rw e) (good_by _ _ refl) (omega arith) refl (rw fits) refl refl refl)
+    (λ e. of_node a f s K.Decide (ascii "decide") e (rw e) (good_by _ _ refl) (omega arith) refl (rw fits) refl refl refl)
     a.kind s.kind refl

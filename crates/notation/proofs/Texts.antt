@@ -9,10 +9,12 @@ use lib.Dec.{eqb, ltb}
 use lib.ListN.{length}
 use Rattle.charts.specs.Valid.{is_size}
 use Rattle.charts.specs.declared.Action.{Action}
-use Rattle.runfile.proofs.Loops.{and_left, and_right}
+use Rattle.charts.proofs.Tools.{and-true}
 use Rattle.transcript.specs.Text.{ascii, decimal}
 use Rattle.transcript.specs.Lines.{line, nodes_line}
 use Rattle.transcript.proofs.Decimals.{decimal_short}
+use Rattle.std.proofs.Common.{Some, Ok}
+use Rattle.words.specs.declared.Name.TheVariants as N
 use Rattle.words.specs.declared.Token.TheVariants.{Word, Number}
 use Rattle.notation.specs.declared.Text.TheVariants.{Run}
 use Rattle.notation.specs.declared.Line.TheVariants.{Nodes}
@@ -111,18 +113,18 @@ actions_back n i done (a ∷ l) h g =
     ∙ ap₂ (λ (j : ℕ) (x : List Action). end_on j n x) e (append_assoc done (a ∷ []) l))
 
 -- the `nodes` line
-say_nodes : (n : ℕ) → n < 256 → said_by Run (Word 13 ∷ Number n ∷ []) ≡ Nodes n
+say_nodes : (n : ℕ) → n < 256 → said_by Run (Word (Some N.Nodes) ∷ Number n ∷ []) ≡ Ok (Nodes n)
 unfolding said_by named_of nodes_of number_in last_of
 say_nodes n h = rw (le-leb n 255 (omega arith))
 
-token_nodes : token_of (ascii "nodes") ≡ Word 13
+token_nodes : token_of (ascii "nodes") ≡ Word (Some N.Nodes)
 unfolding token_of name_of digit_of
 token_nodes = refl
 
 nodes_good : (n : ℕ) → AllGood (ascii "nodes" ∷ decimal n ∷ [])
 nodes_good n = (good_by _ _ refl, (decimal_good n, tt))
 
-nodes_back : (n : ℕ) → n < 256 → line_of Run (spaced (ascii "nodes" ∷ decimal n ∷ [])) ≡ Nodes n
+nodes_back : (n : ℕ) → n < 256 → line_of Run (spaced (ascii "nodes" ∷ decimal n ∷ [])) ≡ Ok (Nodes n)
 nodes_back n h =
     let short = decimal_short 2 n (omega arith) in
     said_line Run (ascii "nodes" ∷ decimal n ∷ []) (nodes_good n) (omega arith)
@@ -132,8 +134,8 @@ nodes_back n h =
 pub text_back : (n : ℕ) (a : Action) (l : List Action) → is_size n ≡ true → AllAccepted n (a ∷ l) → meaning_of (text_of n (a ∷ l)) ≡ run n (a ∷ l)
 unfolding meaning_of mark_size text_of nodes_line nodes_stage
 text_back n a l size g =
-    let high = ltb-true n 64 (and_right (ltb 1 n) _ size) in
-    let low = ltb-true 1 n (and_left (ltb 1 n) _ size) in
+    let high = ltb-true n 64 ((and-true (ltb 1 n) _ size).1) in
+    let low = ltb-true 1 n ((and-true (ltb 1 n) _ size).0) in
     let some : eqb n 0 ≡ false = ne_eqb n 0 (λ e. omega arith) in
     rw (printed_line (ascii "nodes" ∷ decimal n ∷ []) (action_lines (a ∷ l)) (nodes_good n), nodes_back n (omega arith), size, lines_back (a ∷ l))
     (actions_back n 1 [] (a ∷ l) some g ∙ rw (some, ne_eqb (suc (length l)) 0 (λ e. omega arith)))

@@ -1,20 +1,18 @@
 -- What a whole text means: n and its actions, or its first fault with the line that has it.
-use Rattle.std.specs.Prelude.{◌≡◌, cond, ◌&&◌, List, [], ◌∷◌, ◌++◌, ℕ, suc, eqb, length, drop, get_or, replicate}
+use Rattle.std.specs.Prelude.{◌≡◌, cond, ◌&&◌, List, [], ◌∷◌, ◌++◌, ℕ, suc, eqb, length, drop, get_or, replicate, Result, Ok, Err}
 use Rattle.charts.specs.Records.{read}
 use Rattle.charts.specs.declared.Action.{Action}
 use Rattle.charts.specs.declared.Move.{Move}
-use Rattle.charts.specs.declared.Decoded.{Decoded}
-use Rattle.charts.specs.declared.Decoded.TheVariants as D
+use Rattle.charts.specs.declared.Refusal.{Refusal}
+use Rattle.charts.specs.Numbers.{number_of}
 use Rattle.charts.specs.Layout.{Fits}
 use Rattle.transcript.specs.Lines.{nodes_line}
 use Rattle.faults.specs.declared.Fault.{Fault}
 use Rattle.faults.specs.declared.Fault.TheVariants.{UnknownWord, NodesMissing, NoAction, Refused}
 use Rattle.notation.specs.declared.Text.TheVariants.{Run}
 use Rattle.notation.specs.declared.Line.{Line}
-use Rattle.notation.specs.declared.Line.TheVariants.{Blank, Nodes, Acts, Actions, Finds, Wrong}
+use Rattle.notation.specs.declared.Line.TheVariants.{Blank, Nodes, Acts, Actions, Finds}
 use Rattle.notation.specs.declared.Line.TheVariants as L
-use Rattle.notation.specs.declared.Stage.{Stage}
-use Rattle.notation.specs.declared.Stage.TheVariants.{Going, Stopped}
 use Rattle.words.specs.Words.{with_word}
 use Rattle.notation.specs.Grammar.{line_of}
 use Rattle.notation.specs.Reading.{nodes_stage}
@@ -45,24 +43,24 @@ pub data Said : Type 0 where
   off : Fault → Said
 
 -- "`pass * 6` repeats a line"; "the paper's number 1 to 6 for what the writer would refuse"
-abbrev pub read_on : ℕ → List Action → Action → ℕ → Decoded → Said
-read_on n l a k (D.Refused j) = off (Refused j)
-read_on n l a k (D.Accepted m) = on n (l ++ replicate k a)
+abbrev pub read_on : ℕ → List Action → Action → ℕ → Result Move Refusal → Said
+read_on n l a k (Err j) = off (Refused (number_of j))
+read_on n l a k (Ok m) = on n (l ++ replicate k a)
 
 -- "`nodes 3` first"
-abbrev pub nodes_on : ℕ → List Action → Stage → Said
-nodes_on m l Going = on m l
-nodes_on m l (Stopped f) = off f
+abbrev pub nodes_on : ℕ → List Action → Result Unit Fault → Said
+nodes_on m l (Ok u) = on m l
+nodes_on m l (Err f) = off f
 
 -- a run has no lines of settings and no `find`: "The first word is no action and not `nodes`"
-abbrev pub line_on : ℕ → List Action → Line → Said
-line_on n l Blank = on n l
-line_on n l (Nodes m) = nodes_on m l (nodes_stage n m)
-line_on n l (Acts a k) = cond (eqb n 0) (off NodesMissing) (read_on n l a k (read n a))
-line_on n l (Actions k) = off UnknownWord
-line_on n l (L.User i u) = off UnknownWord
-line_on n l (Finds q d) = off UnknownWord
-line_on n l (Wrong f) = off f
+abbrev pub line_on : ℕ → List Action → Result Line Fault → Said
+line_on n l (Ok Blank) = on n l
+line_on n l (Ok (Nodes m)) = nodes_on m l (nodes_stage n m)
+line_on n l (Ok (Acts a k)) = cond (eqb n 0) (off NodesMissing) (read_on n l a k (read n a))
+line_on n l (Ok (Actions k)) = off UnknownWord
+line_on n l (Ok (L.User i u)) = off UnknownWord
+line_on n l (Ok (Finds q d)) = off UnknownWord
+line_on n l (Err f) = off f
 
 -- "no `nodes` line, no action": told of the last line
 abbrev pub end_on : ℕ → ℕ → List Action → Meaning
@@ -92,7 +90,7 @@ text_of n l = nodes_line n ++ action_lines l
 pub record Accepts (n : ℕ) (a : Action) : Type 0 where
   pub fits : Fits a
   pub move : Move
-  pub reads : read n a ≡ D.Accepted move
+  pub reads : read n a ≡ Ok move
 
 abbrev pub AllAccepted : ℕ → List Action → Type 0
 AllAccepted n [] = Unit

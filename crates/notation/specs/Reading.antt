@@ -1,14 +1,9 @@
--- What every reader of a text does: it goes on or has stopped, counts the lines, and takes the `nodes` line.
-use Rattle.std.specs.Prelude.{Bool, true, false, cond, not, ℕ, zero, suc, ◌+◌, eqb, ltb}
+-- What every reader of a text does: it counts the lines, and takes the `nodes` line.
+use Rattle.std.specs.Prelude.{cond, not, ℕ, zero, suc, ◌+◌, eqb, ltb, Result, Ok, Err}
 use Rattle.charts.specs.Numbers as N
 use Rattle.charts.specs.Valid.{is_size}
+use Rattle.faults.specs.declared.Fault.{Fault}
 use Rattle.faults.specs.declared.Fault.TheVariants.{NodesAgain, Refused}
-use Rattle.notation.specs.declared.Stage.{Stage}
-use Rattle.notation.specs.declared.Stage.TheVariants.{Going, Stopped}
-
-abbrev pub is_stopped : Stage → Bool
-is_stopped Going = false
-is_stopped (Stopped f) = true
 
 -- lines are counted from 1; the count stops at the largest number of 64 bits
 abbrev pub counted : ℕ → ℕ
@@ -20,5 +15,5 @@ line_shown zero = 0
 line_shown (suc i) = counted (line_shown i)
 
 -- "`nodes 3` first": once (n is 0 before it), and 1 refuses its number m
-unfoldable pub nodes_stage : ℕ → ℕ → Stage
-nodes_stage n m = cond (not (eqb n 0)) (Stopped NodesAgain) (cond (not (is_size m)) (Stopped (Refused N.wrong_size)) Going)
+unfoldable pub nodes_stage : ℕ → ℕ → Result Unit Fault
+nodes_stage n m = cond (not (eqb n 0)) (Err NodesAgain) (cond (not (is_size m)) (Err (Refused N.wrong_size)) (Ok tt))

@@ -5,7 +5,7 @@ mod grammar;
 
 ghost use Rattle.std.specs.Prelude.{◌≡◌, ◌≤◌, length};
 ghost use Rattle.notation.specs.Grammar.{line_of};
-ghost use Rattle.notation.specs.Reading.{is_stopped, counted, nodes_stage};
+ghost use Rattle.notation.specs.Reading.{counted, nodes_stage};
 ghost use Rattle.notation.specs.Meaning.{mark_size};
 
 use charts::{Action, Question, User};
@@ -13,18 +13,19 @@ use faults::Fault;
 
 const WRONG_SIZE: u8 = 1;
 
-const LAST_LINE: u64 = 18446744073709551615;
+// The byte order mark.
+const MARK: [u8; 3] = [239, 187, 191];
 
 // What a text is of: a run, the settings of a load trial, or a run and a question about it.
-#[derive(Clone, Copy)]
+#[derive(Clone, Copy, PartialEq, Eq)]
 pub enum Text {
     Run,
     Settings,
     Question,
 }
 
-// What a line says: nothing, the number of nodes, an action with how often it is repeated, the number of actions, a node's user, a question with the depth
-// of its search, or what is wrong.
+// What a line says: nothing, the number of nodes, an action with how often it is repeated, the number of actions, a node's user, or a question with the depth
+// of its search.
 #[derive(Clone, Copy)]
 pub enum Line {
     Blank,
@@ -33,22 +34,15 @@ pub enum Line {
     Actions(u16),
     User(u8, User),
     Finds(Question, u8),
-    Wrong(Fault),
 }
 
-// Whether the reader of a text goes on, or a fault has stopped it.
-#[derive(Clone, Copy)]
-pub enum Stage {
-    Going,
-    Stopped(Fault),
-}
-
-// What a line of a text says, without its newline.
-pub fn parse_line(text: Text, line: &[u8]) -> Line
+// What a line of a text says, without its newline, or what is wrong with it.
+#[tactic(auto, unfolding(crate::specs::Grammar::line_of))]
+pub fn parse_line(text: Text, line: &[u8]) -> Result<Line, Fault>
     ensures { result ≡ line_of text line.now }
 {
     if 255 < line.len() {
-        return Line::Wrong(Fault::LongLine);
+        return Err(Fault::LongLine);
     }
     grammar::parse(text, line)
 }
@@ -58,46 +52,26 @@ pub fn mark_size(text: &[u8]) -> usize
     ensures value { result ≡ mark_size text.now }
     ensures upper_bound { result ≤ length text.now }
 {
-    if text.len() < 3 {
-        return 0;
-    }
-    if text[0] != 239 {
-        return 0;
-    }
-    if text[1] != 187 {
-        return 0;
-    }
-    if text[2] != 191 {
-        return 0;
-    }
-    3
-}
-
-pub fn is_stopped(stage: Stage) -> bool
-    ensures { result ≡ is_stopped stage }
-{
-    match stage {
-        Stage::Going => false,
-        Stage::Stopped(_) => true,
-    }
+    if text.starts_with(&MARK) { MARK.len() } else { 0 }
 }
 
 // The number of the line after a line.
 pub fn count_line(line: u64) -> u64
     ensures { result ≡ counted line }
 {
-    if line < LAST_LINE { line + 1 } else { line }
+    line.saturating_add(1)
 }
 
 // What a line `nodes M` makes of a text that has n nodes so far, 0 before such a line.
-pub fn nodes_stage(n: u8, m: u8) -> Stage
+#[tactic(auto, unfolding(crate::specs::Reading::nodes_stage))]
+pub fn nodes_stage(n: u8, m: u8) -> Result<(), Fault>
     ensures { result ≡ nodes_stage n m }
 {
     if n != 0 {
-        return Stage::Stopped(Fault::NodesAgain);
+        return Err(Fault::NodesAgain);
     }
-    if !runfile::is_size(m) {
-        return Stage::Stopped(Fault::Refused(WRONG_SIZE));
+    if !record::is_size(m) {
+        return Err(Fault::Refused(WRONG_SIZE));
     }
-    Stage::Going
+    Ok(())
 }

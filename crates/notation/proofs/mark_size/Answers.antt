@@ -1,32 +1,29 @@
+use Rattle.std.proofs.Common.{◌≡◌, ◌∙◌, sym, ap, refl, ℕ, List, [], ◌∷◌, Bool, true, false, cond, ◌&&◌, take}
+use Rattle.std.proofs.lemmas.Grind.{common_steps}
+use Rattle.std.specs.Str.{bytes_eq}
+use native.Mathlib.Omega.{arith}
+use lib.Dec.{eqb}
+use Rattle.std.proofs.lemmas.Bool.Decides.{nat_tests}
 use Rattle.notation.specs.Meaning.{mark_size}
-use mathlib.Core.Path.{◌≡◌, refl}
-use mathlib.Core.Bool.{Bool, true, false, ◌&&◌}
-use Rattle.words.proofs.WordLaws.{past_end}
-use borrow.Author.Tests.{eq-eqb, ne_eqb}
-use borrow.Author.Rules.{rules}
 use Rattle.notation.proofs.mark_size.Goals as goal
 
-none_of : (p q : Bool) → (p && (q && false)) ≡ false
-none_of true true = refl
-none_of true false = refl
-none_of false q = refl
+same_test : (a b : ℕ) → eqb a b ≡ eqb b a
+same_test a b = grind (arith, nat_tests)
 
-pub returns-then-text-lt3 : goal.returns-then-text-lt3
+-- the first three bytes, as `starts_with` compares them
+mark : (t : List ℕ) → cond (bytes_eq (239 ∷ 187 ∷ 191 ∷ []) (take 3 t)) 3 0 ≡ mark_size t
 unfolding mark_size
-returns-then-text-lt3 c = let short = past_end c.args.text.now 2 (search rules) in record { value = simp (short, none_of); upper_bound = search rules }
+mark [] = refl
+mark (a ∷ []) = rw (same_test 239 a) refl
+mark (a ∷ b ∷ []) = rw (same_test 239 a, same_test 187 b) refl
+mark (a ∷ b ∷ c ∷ l) = rw (same_test 239 a, same_test 187 b, same_test 191 c) (go (eqb a 239) (eqb b 187) (eqb c 191))
+  where
+    go : (p q r : Bool) → cond (p && (q && (r && true))) 3 0 ≡ cond (p && (q && r)) 3 0
+    go p q true = refl
+    go p q false = refl
 
-pub returns-then-text : goal.returns-then-text
-unfolding mark_size
-returns-then-text c = record { value = simp (ne_eqb _ _ c.if-text.true); upper_bound = search rules }
+pub returns-then-starts_with-clause-value : goal.returns-then-starts_with-clause-value
+returns-then-starts_with-clause-value c = rw (← c.starts_with.ensures.value, c.if-starts_with.true) at (mark c.args.text.now)
 
-pub returns-then-text-2 : goal.returns-then-text-2
-unfolding mark_size
-returns-then-text-2 c = record { value = simp (eq-eqb _ _ c.if-text.false, ne_eqb _ _ c.if-text-2.true); upper_bound = search rules }
-
-pub returns-then-text-3 : goal.returns-then-text-3
-unfolding mark_size
-returns-then-text-3 c = record { value = simp (eq-eqb _ _ c.if-text.false, eq-eqb _ _ c.if-text-2.false, ne_eqb _ _ c.if-text-3.true); upper_bound = search rules }
-
-pub returns : goal.returns
-unfolding mark_size
-returns c = record { value = simp (eq-eqb _ _ c.if-text.false, eq-eqb _ _ c.if-text-2.false, eq-eqb _ _ c.if-text-3.false); upper_bound = search rules }
+pub returns-else-starts_with-clause-value : goal.returns-else-starts_with-clause-value
+returns-else-starts_with-clause-value c = rw (← c.starts_with.ensures.value, c.if-starts_with.false) at (mark c.args.text.now)
