@@ -4,10 +4,9 @@ use mathlib.Core.Bool.{Bool, true, false, cond}
 use mathlib.Core.List.{List, [], ◌∷◌}
 use Prim.Native.Nat.{ℕ, ◌<◌, ◌≤◌}
 use native.Mathlib.Omega.{arith}
-use borrow.Author.Tests.{leb-true, ltb-true}
+use borrow.Author.Tests.{leb-true}
 use lib.Dec.{eqb, ltb, leb}
 use lib.ListN.{length}
-use Rattle.charts.specs.Records.{is_kind}
 use Rattle.charts.specs.declared.Action.{Action}
 use Rattle.charts.specs.Layout.{Fits}
 use Rattle.std.proofs.Common.{Result, Ok, Err, Some, None}
@@ -16,7 +15,7 @@ use Rattle.charts.specs.declared.Kind.TheVariants as K
 use Rattle.charts.specs.declared.Word as Report
 use Rattle.charts.specs.Kinds.{kind_number}
 use Rattle.faults.specs.declared.Fault.{Fault}
-use Rattle.faults.specs.declared.Fault.TheVariants.{UnknownWord, TooLarge, ExtraField, NoRepeat, LongLine}
+use Rattle.faults.specs.declared.Fault.TheVariants.{TooLarge, ExtraField, NoRepeat, LongLine}
 use Rattle.notation.specs.declared.Text.{Text}
 use Rattle.notation.specs.declared.Text.TheVariants.{Run, Settings, Question}
 use Rattle.notation.specs.declared.Line.{Line}

@@ -5,7 +5,7 @@ use Prim.Native.Nat.{ℕ, zero, suc, ◌^◌, ◌<◌}
 use native.Mathlib.Omega.{arith}
 use borrow.Author.Tests.{lt-ltb}
 use lib.Dec.{eqb}
-use Rattle.charts.specs.Numbers as N
+use Rattle.charts.specs.declared.Refusal.TheVariants.{WrongSize}
 use Rattle.charts.specs.Valid.{is_size}
 use Rattle.faults.specs.declared.Fault.TheVariants as F
 use Rattle.std.proofs.Common.{Ok, Err}
@@ -21,7 +21,7 @@ pub sized_nodes : (n m : ℕ) → nodes_stage n m ≡ Ok (tt {0}) → (eqb n 0 �
 unfolding nodes_stage
 sized_nodes n m e = go (eqb n 0) (is_size m) refl refl e
   where
-    go : (b s : Bool) → eqb n 0 ≡ b → is_size m ≡ s → cond (not b) (Err F.NodesAgain) (cond (not s) (Err (F.Refused N.wrong_size)) (Ok (tt {0}))) ≡ Ok (tt {0})
+    go : (b s : Bool) → eqb n 0 ≡ b → is_size m ≡ s → cond (not b) (Err F.NodesAgain) (cond (not s) (Err (F.Refused WrongSize)) (Ok (tt {0}))) ≡ Ok (tt {0})
         → (eqb n 0 ≡ true) × (is_size m ≡ true)
     go true true p q h = (p, q)
     go true false p q h = absurd (let z : ◌≡◌ {A = ℕ} 0 1 = cc in omega arith)

@@ -4,7 +4,6 @@ use Rattle.charts.specs.Records.{read}
 use Rattle.charts.specs.declared.Action.{Action}
 use Rattle.charts.specs.declared.Move.{Move}
 use Rattle.charts.specs.declared.Refusal.{Refusal}
-use Rattle.charts.specs.Numbers.{number_of}
 use Rattle.charts.specs.Layout.{Fits}
 use Rattle.transcript.specs.Lines.{nodes_line}
 use Rattle.faults.specs.declared.Fault.{Fault}
@@ -44,7 +43,7 @@ pub data Said : Type 0 where
 
 -- "`pass * 6` repeats a line"; "the paper's number 1 to 6 for what the writer would refuse"
 abbrev pub read_on : ℕ → List Action → Action → ℕ → Result Move Refusal → Said
-read_on n l a k (Err j) = off (Refused (number_of j))
+read_on n l a k (Err j) = off (Refused j)
 read_on n l a k (Ok m) = on n (l ++ replicate k a)
 
 -- "`nodes 3` first"

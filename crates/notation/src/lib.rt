@@ -8,10 +8,8 @@ ghost use Rattle.notation.specs.Grammar.{line_of};
 ghost use Rattle.notation.specs.Reading.{counted, nodes_stage};
 ghost use Rattle.notation.specs.Meaning.{mark_size};
 
-use charts::{Action, Question, User};
+use charts::{Action, Question, Refusal, User};
 use faults::Fault;
-
-const WRONG_SIZE: u8 = 1;
 
 // The byte order mark.
 const MARK: [u8; 3] = [239, 187, 191];
@@ -52,7 +50,11 @@ pub fn mark_size(text: &[u8]) -> usize
     ensures value { result ≡ mark_size text.now }
     ensures upper_bound { result ≤ length text.now }
 {
-    if text.starts_with(&MARK) { MARK.len() } else { 0 }
+    if text.starts_with(&MARK) {
+        MARK.len()
+    } else {
+        0
+    }
 }
 
 // The number of the line after a line.
@@ -71,7 +73,7 @@ pub fn nodes_stage(n: u8, m: u8) -> Result<(), Fault>
         return Err(Fault::NodesAgain);
     }
     if !record::is_size(m) {
-        return Err(Fault::Refused(WRONG_SIZE));
+        return Err(Fault::Refused(Refusal::WrongSize));
     }
     Ok(())
 }

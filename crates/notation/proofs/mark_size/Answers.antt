@@ -1,5 +1,4 @@
-use Rattle.std.proofs.Common.{◌≡◌, ◌∙◌, sym, ap, refl, ℕ, List, [], ◌∷◌, Bool, true, false, cond, ◌&&◌, take}
-use Rattle.std.proofs.lemmas.Grind.{common_steps}
+use Rattle.std.proofs.Common.{◌≡◌, refl, ℕ, List, [], ◌∷◌, Bool, true, false, cond, ◌&&◌, take}
 use Rattle.std.specs.Str.{bytes_eq}
 use native.Mathlib.Omega.{arith}
 use lib.Dec.{eqb}
@@ -18,7 +17,7 @@ mark (a ∷ []) = rw (same_test 239 a) refl
 mark (a ∷ b ∷ []) = rw (same_test 239 a, same_test 187 b) refl
 mark (a ∷ b ∷ c ∷ l) = rw (same_test 239 a, same_test 187 b, same_test 191 c) (go (eqb a 239) (eqb b 187) (eqb c 191))
   where
-    go : (p q r : Bool) → cond (p && (q && (r && true))) 3 0 ≡ cond (p && (q && r)) 3 0
+    go : (p q r : Bool) → ◌≡◌ {A = ℕ} (cond (p && (q && (r && true))) 3 0) (cond (p && (q && r)) 3 0)
     go p q true = refl
     go p q false = refl
 
