@@ -1,5 +1,6 @@
 -- Marks cleared at every node of the bus.
-use Rattle.std.specs.Prelude.{Bool, true, false, ◌&&◌, not, ℕ, ltb}
+use Rattle.std.specs.Prelude.{Bool, true, false, cond, ◌&&◌, not, ℕ, ltb, Option, Some, None}
+use Rattle.charts.specs.State.{some, lowest}
 use Rattle.charts.specs.declared.Marking.{Marking}
 use Rattle.charts.specs.declared.Marking.TheVariants as M
 
@@ -7,6 +8,10 @@ use Rattle.charts.specs.declared.Marking.TheVariants as M
 abbrev pub unmarked : Bool → ℕ → (ℕ → Bool) → ℕ → Bool
 unmarked true n f k = f k && not (ltb k n)
 unmarked false n f k = f k
+
+-- the lowest of the n numbers below at which f holds, if there is one
+abbrev pub first_marked : (ℕ → Bool) → ℕ → Option ℕ
+first_marked f n = cond (some f n) (Some (lowest f n 0)) None
 
 -- which marks a plan clears
 abbrev pub clears_misled : Marking → Bool

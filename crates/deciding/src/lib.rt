@@ -7,7 +7,7 @@ ghost use Rattle.link.specs.Reading.{heard_by};
 ghost use Rattle.deciding.specs.Plans.{tried};
 
 use crate::plans::Plan;
-use charts::{Cell, Decoded, Phase};
+use charts::{Cell, Move, Phase, Refusal};
 
 mod actions;
 pub mod bools;
@@ -17,34 +17,29 @@ pub mod marks;
 pub mod phases;
 pub mod plans;
 
-// What `bus::advance` makes of node i, whose cell is c, by a table of the reception chart; `asked` says whether some node is Asked. (bus/proofs/InPlace.antt:
-// carrying the plan out on the arrays, with the chart's own table, is `advance`.) A player takes the table once, and lends it with each action.
+// What an action looks at beside the cell of the node that it is about: how many nodes there are, the bus's phase and its own mark, whether some node is Asked,
+// and the marks of all nodes, which are lent.
+#[derive(Clone, Copy)]
+pub struct Scene<'a> {
+    pub n: u8,
+    pub phase: Phase,
+    pub concatenated: bool,
+    pub asked: bool,
+    pub won: &'a [bool; 63],
+    pub pending: &'a [bool; 63],
+    pub holder: &'a [bool; 63],
+}
+
+// What `bus::advance` makes of node i, whose cell is c, by a table of the reception chart. (bus/proofs/InPlace.antt: carrying the plan out on the arrays, with the
+// chart's own table, is `advance`.) A player takes the table once, and lends it with each action.
 pub fn plan(
     table: &[u16; 350],
-    n: u8,
-    phase: Phase,
-    concatenated: bool,
-    asked: bool,
+    scene: Scene,
     i: u8,
     c: Cell,
-    won: &[bool; 63],
-    pending: &[bool; 63],
-    holder: &[bool; 63],
-    d: Decoded,
-) -> Plan
-    ensures { result ≡ tried (heard_by table.now) n phase concatenated asked i c (mark won.now) (mark pending.now) (mark holder.now) d }
+    d: Result<Move, Refusal>,
+) -> Result<Plan, Refusal>
+    ensures { result ≡ tried (heard_by table.now) scene.entry.n scene.entry.phase scene.entry.concatenated scene.entry.asked i c (mark scene.entry.won.now) (mark scene.entry.pending.now) (mark scene.entry.holder.now) d }
 {
-    decide::decide(
-        table,
-        n,
-        phase,
-        concatenated,
-        asked,
-        i,
-        c,
-        won,
-        pending,
-        holder,
-        d,
-    )
+    decide::decide(table, scene, i, c, d)
 }

@@ -1,16 +1,10 @@
-use mathlib.Core.Path.{refl, sym, ◌∙◌}
-use native.Mathlib.Omega.{arith}
-use lib.Dec.{ltb}
-use borrow.Author.Tests.{ltb-true}
-use Rattle.charts.proofs.Tools.{and-true}
+use Rattle.std.proofs.Common.{◌≤◌, rules, arith, length}
+use borrow.Author.Tests.{lt-ltb}
+use Rattle.std.proofs.lemmas.List.{length-take-le}
+use Rattle.deciding.proofs.MarkLaws.{unmarked_front}
 use Rattle.deciding.proofs.marks.clear.Goals as goal
 
-pub wipe-requires : goal.wipe-requires
-wipe-requires c = let s = ltb-true c.args.n 64 (and-true c.args.asked (ltb c.args.n 64) (sym c.both.ensures ∙ c.if-both.true)).1 in
-    omega arith
-
-pub returns-then-both : goal.returns-then-both
-returns-then-both c = record { marks_len_unchanged = c.wipe.ensures.marks_len_unchanged; marks_after = rw (← c.both.ensures, c.if-both.true) c.wipe.ensures.marks_after }
-
-pub returns-else-both : goal.returns-else-both
-returns-else-both c = record { marks_len_unchanged = refl; marks_after = rw (← c.both.ensures, c.if-both.false) }
+pub returns-then-n-lt64-clause-marks_after : goal.returns-then-n-lt64-clause-marks_after
+returns-then-n-lt64-clause-marks_after c =
+    let h : c.args.n ≤ length c.args.marks.now = omega arith in
+    rw (c.if-asked.true, lt-ltb _ _ c.if-n-lt64.true, c.fill.ensures.after (λ y k. search rules), length-take-le c.args.n c.args.marks.now h) (unmarked_front c.args.marks.now c.args.n h)

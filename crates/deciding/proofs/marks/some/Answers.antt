@@ -1,6 +1,6 @@
-use Rattle.deciding.proofs.MarkLaws.{some_beyond}
-use mathlib.Core.Path.{◌∙◌}
+use Rattle.std.proofs.Common.{◌∙◌}
+use Rattle.deciding.proofs.MarkLaws.{others_none}
 use Rattle.deciding.proofs.marks.some.Goals as goal
 
 pub returns : goal.returns
-returns c = c.some_with.ensures ∙ some_beyond _ _ _ _ c.requires
+returns c = c.others.ensures ∙ others_none c.args.marks.now c.args.n c.told-marks

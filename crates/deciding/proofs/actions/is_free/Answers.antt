@@ -1,4 +1,0 @@
-use Rattle.deciding.proofs.actions.is_free.Goals as goal
-
-pub returns : goal.returns
-returns c = simp (c.is_rest.ensures, c.is_empty.ensures, c.both.ensures)

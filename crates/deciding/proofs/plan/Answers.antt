@@ -1,4 +1,0 @@
-use Rattle.deciding.proofs.plan.Goals as goal
-
-pub returns : goal.returns
-returns c = c.decide.ensures
