@@ -1,5 +1,5 @@
 pub mod Loop
-pub mod Fed
+pub mod Feeds
 pub mod Whole
 pub mod Nodes
 pub mod Files

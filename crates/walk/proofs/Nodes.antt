@@ -1,27 +1,24 @@
 -- Walks whose state is block 0's n throughout. Assumes nothing.
 use mathlib.Core.Path.{◌≡◌, refl, ap, sym, ◌∙◌}
-use mathlib.Core.Bool.{Bool, true, false, cond}
-use mathlib.Core.List.{List, [], ◌∷◌}
-use Prim.Native.Nat.{ℕ, suc}
+use mathlib.Core.Bool.{Bool}
+use mathlib.Core.List.{List}
+use Prim.Native.Nat.{ℕ}
 use native.Mathlib.Omega.{arith}
 use Rattle.charts.specs.declared.Action.{Action}
 use Rattle.runfile.specs.declared.BlockHead.{BlockHead}
-use Rattle.runfile.specs.declared.BlockHead.TheVariants.{Holds, Refused}
+use Rattle.std.specs.Prelude.{Some, Ok, Err}
 use Rattle.files.specs.declared.order.Stage.{Stage}
 use Rattle.files.specs.declared.order.Stage.TheVariants.{Unopened, After, Ended}
-use Rattle.runfile.specs.Block.{head_of}
+use Rattle.runfile.specs.Block.{Head, head_of}
 use Rattle.files.specs.Order.{accepted_by, look_of, stage_after}
 use Rattle.files.specs.Pieces.{pieces, actions_in}
 use Rattle.files.proofs.Stages.{before, same_look, Passed, passed, next}
-use Rattle.transcript.specs.Lines.{refused_line}
 use Rattle.transcript.specs.Room.{Puts}
-use Rattle.walk.specs.declared.Found.TheVariants.{Block}
-use Rattle.walk.specs.Walk.{is_taken, Walker, walked}
-use Rattle.walk.specs.declared.reading.Reading.{Reading}
-use Rattle.walk.specs.declared.reading.Part as put
-use Rattle.walk.specs.Feeding.{is_unopened, opening_of, found_by, found_in, found_text, Part, line_then, part_of, feed_of, fed_text}
-use Rattle.walk.specs.Reading.{seen, started, PutsPart}
-use Rattle.walk.proofs.Fed.{Fed, fed_block}
+use Rattle.walk.specs.Walk.{Walker, walked}
+use Rattle.walk.specs.declared.Part as put
+use Rattle.walk.specs.Feeding.{is_unopened, opening_of, found_by, found_in, found_text, PutsPart, part_of, feed_of, fed_text}
+use Rattle.walk.specs.Reading.{reading, started}
+use Rattle.walk.proofs.Feeds.{Fed, fed_block}
 use Rattle.walk.proofs.Whole as W
 
 pub record KeepsN (w : Walker ℕ) : Type 0 where
@@ -30,50 +27,36 @@ pub record KeepsN (w : Walker ℕ) : Type 0 where
   pub turn_n : (i : ℕ) (a : Action) (n : ℕ) → (w.turn i a n).state ≡ n
 
 -- a block that is found has block 0's n
-holds : (h : BlockHead) (number count n : ℕ) → found_by h ≡ Block number count n → h ≡ Holds number count n
-holds (Holds i c m) number count n e = cc
-holds (Refused k) number count n e = let z : ◌≡◌ {A = ℕ} 0 1 = cc in absurd (omega arith)
-
--- the state of a part is that of its last turn
-one_n : (b : Bool) (t : List ℕ) (q p : Part ℕ) (n : ℕ) → p.state ≡ n → q.state ≡ n → (cond b (line_then t p) q).state ≡ n
-one_n true t q p n e f = e
-one_n false t q p n e f = f
+holds : (h : Head) (f : BlockHead) → found_by h ≡ Some f → h ≡ Ok f
+holds (Ok h) f e = cc
+holds (Err k) f e = let z : ◌≡◌ {A = ℕ} 0 1 = cc in absurd (omega arith)
 
 abbrev pub Any : ℕ → Type 0
 Any n = Unit {0}
 
 module _ {w : Walker ℕ} (keeps : KeepsN w) where
-  opens : (g : Stage) (m : ℕ) (s : List ℕ) (number count n : ℕ) → found_in g m s ≡ Block number count n → opening_of w g n m ≡ n
+  opens : (g : Stage) (m : ℕ) (s : List ℕ) (f : BlockHead) → found_in g m s ≡ Some f → opening_of w g f.n m ≡ f.n
   unfolding found_in look_of
-  opens Unopened m s number count n f = keeps.opening_n n
-  opens (After i c) m s number count n f =
-      let looked = sym (same_look (After i c) m s (head_of s) refl) ∙ holds _ number count n f in
-      let pass : Passed (before (After i c) m) (Holds number count n) = rw looked at (passed (before (After i c) m) s) in
-      sym (next i c m number n pass.0).same_n
-  opens Ended m s number count n f = let z : ◌≡◌ {A = ℕ} 0 1 = cc in absurd (omega arith)
-
-  -- its actions leave n as it was
-  part_n : (l : List Action) (n i : ℕ) → (part_of w l n i).state ≡ n
-  part_n [] n i = refl
-  part_n (a ∷ l) n i =
-      let t = w.turn i a n in
-      let same = keeps.turn_n i a n in
-      one_n (is_taken t) t.line (record { text = refused_line i t.number; state = t.state; ended = true }) (part_of w l t.state (suc i)) n
-      (part_n l t.state (suc i) ∙ same) same
+  opens Unopened m s f e = keeps.opening_n f.n
+  opens (After i c) m s f e =
+      let looked = sym (same_look (After i c) m s (head_of s) refl) ∙ holds _ f e in
+      let pass : Passed (before (After i c) m) (Ok f) = rw looked at (passed (before (After i c) m) s) in
+      sym (next i c m f.number f.n pass.0).same_n
+  opens Ended m s f e = let z : ◌≡◌ {A = ℕ} 0 1 = cc in absurd (omega arith)
 
   -- what a feeding function has done that found a block, put what stands before its actions, and had its actions put their text
-  pub fed_part : (l : Reading) (piece start : List ℕ) (number count n : ℕ) {from at : ℕ} {before mid buf : List ℕ} {part : put.Part}
-      → found_in l.stage (w.nodes l.n) piece ≡ Block number count n
-      → Puts start 0 (found_text l.stage (w.nodes l.n) piece) from before
-      → Puts before 0 (w.heading (is_unopened l.stage) number count n piece) at mid
-      → PutsPart (part_of w (actions_in count piece) n (accepted_by l.stage)) mid at part buf
-      → Fed (feed_of w (seen l) piece) start part.end buf (record { state = n; stage = stage_after part.ended number count })
-  fed_part l piece start number count n {part = part} is look heading p =
-      let same = opens l.stage l.n piece number count n (rw (keeps.nodes_n l.n) at is) in
+  pub fed_part : (m : ℕ) (g : Stage) (piece start : List ℕ) (f : BlockHead) {from at : ℕ} {before mid buf : List ℕ} {part : put.Part ℕ}
+      → found_in g (w.nodes m) piece ≡ Some f
+      → Puts start 0 (found_text g (w.nodes m) piece) from before
+      → Puts before 0 (w.heading (is_unopened g) f.number f.count f.n piece) at mid
+      → PutsPart (λ k. k) (part_of w (actions_in f.count piece) f.n (accepted_by g)) mid at part buf
+      → Fed (feed_of w (reading m g) piece) start part.end buf (reading part.state (stage_after part.ended f.number f.count))
+  fed_part m g piece start f {part = part} is look heading p =
+      let same = opens g m piece f (rw (keeps.nodes_n m) at is) in
       let puts = rw (← same) at p.puts in
       let stop = rw (← same) at p.stops in
-      let left = sym (part_n (actions_in count piece) (opening_of w l.stage n l.n) (accepted_by l.stage) ∙ same) in
-      fed_block w (seen l) piece start number count n is look heading puts left (ap (λ (b : Bool). stage_after b number count) stop)
+      let left = rw (← same) at p.leaves in
+      fed_block w (reading m g) piece start f is look heading puts left (ap (λ (b : Bool). stage_after b f.number f.count) stop)
 
   pub does : W.Does Any w w
   does = record {

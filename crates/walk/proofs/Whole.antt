@@ -9,11 +9,10 @@ use lib.ListN.{length}
 use Rattle.charts.specs.declared.Action.{Action}
 use Rattle.charts.specs.Valid.{is_size}
 use Rattle.charts.proofs.Tools.{never}
-use Rattle.runfile.specs.declared.BlockHead.{BlockHead}
-use Rattle.runfile.specs.declared.BlockHead.TheVariants.{Holds, Refused}
+use Rattle.std.specs.Prelude.{Ok, Err}
 use Rattle.files.specs.declared.order.Stage.{Stage}
 use Rattle.files.specs.declared.order.Stage.TheVariants.{Unopened, After, Ended}
-use Rattle.runfile.specs.Block.{head_of}
+use Rattle.runfile.specs.Block.{Head, head_of}
 use Rattle.files.specs.Order.{is_ended, accepted_by, look_of, stage_after}
 use Rattle.files.specs.Pieces.{pieces, Before, none, is_first, follows, looked_at, actions_in}
 use Rattle.files.proofs.Stages.{before, same_look, Passed, passed, next, counted}
@@ -116,10 +115,13 @@ module _ {S : Type 0} {Good : S → Type 0} {w v : Walker S} (does : Does Good w
         by_end true = silent l p.state
         by_end false = rw (← e, ← f) (rest (After number count) p.state refl good)
 
-    block : (g : Stage) (s : S) (b : List ℕ) (h : BlockHead) → is_ended g ≡ false → Fine g s → Passed (before g (v.nodes s)) h
+    block : (g : Stage) (s : S) (b : List ℕ) (h : Head) → is_ended g ≡ false → Fine g s → Passed (before g (v.nodes s)) h
         → (found_gives v g s b (text_by g h) (found_by h)).text ++ fed_text v l (found_gives v g s b (text_by g h) (found_by h)).after ≡ block_walked w b (before g (v.nodes s)) s (accepted_by g) h (walked_from w l)
-    block g s b (Refused j) k good z = rw (silent l s) (append-nil _)
-    block g s b (Holds number count n) k good z =
+    block g s b (Err j) k good z = rw (silent l s) (append-nil _)
+    block g s b (Ok h) k good z =
+        let number = h.number in
+        let count = h.count in
+        let n = h.n in
         let acts = actions_in count b in
         let m = v.nodes s in
         let o = opens g s number n k good z.0 z.1 in
@@ -150,9 +152,9 @@ module _ {S : Type 0} {Good : S → Type 0} {w v : Walker S} (does : Does Good w
   any_state [] s t = refl
   any_state (b ∷ l) s t = by_head (looked_at none b (head_of b))
     where
-      by_head : (h : BlockHead) → block_walked w b none s 0 h (walked_from w l) ≡ block_walked w b none t 0 h (walked_from w l)
-      by_head (Refused k) = refl
-      by_head (Holds number count n) = refl
+      by_head : (h : Head) → block_walked w b none s 0 h (walked_from w l) ≡ block_walked w b none t 0 h (walked_from w l)
+      by_head (Err k) = refl
+      by_head (Ok h) = refl
 
   -- the theorem
   pub whole : (s : S) (bytes : List ℕ) → fed_text v (pieces bytes) (record { state = s; stage = Unopened }) ≡ walked w bytes

@@ -1,10 +1,9 @@
 -- The text of a run file, when it is said what each of its actions gives.
-use Rattle.std.specs.Prelude.{Bool, cond, List, [], ◌∷◌, ◌++◌, ℕ, suc, eqb}
+use Rattle.std.specs.Prelude.{Bool, cond, List, [], ◌∷◌, ◌++◌, ℕ, suc, eqb, Ok, Err}
 use Rattle.charts.specs.declared.Action.{Action}
 use Rattle.charts.specs.Numbers as N
-use Rattle.runfile.specs.declared.BlockHead.{BlockHead}
-use Rattle.runfile.specs.declared.BlockHead.TheVariants.{Holds, Refused}
-use Rattle.runfile.specs.Block.{head_of}
+use Rattle.charts.specs.Numbers.{number_of}
+use Rattle.runfile.specs.Block.{Head, head_of}
 use Rattle.files.specs.Pieces.{pieces, Before, none, is_first, looked_at, actions_in}
 use Rattle.transcript.specs.Lines.{nodes_line, refused_line}
 
@@ -45,11 +44,11 @@ abbrev pub opened : {S : Type 0} → Walker S → Before → ℕ → S → S
 opened w p n s = cond (is_first p) (w.opening n) s
 
 -- the text of a block whose head was looked at, and of what follows it
-abbrev pub block_walked : {S : Type 0} → Walker S → List ℕ → Before → S → ℕ → BlockHead → (Before → S → ℕ → List ℕ) → List ℕ
-block_walked w b p s i (Refused k) later = refused_line i k
-block_walked w b p s i (Holds number count n) later =
-    w.heading (is_first p) number count n b
-    ++ walking w (actions_in count b) (opened w p n s) i (later (record { blocks = suc p.blocks; full = eqb count 31; n = n }))
+abbrev pub block_walked : {S : Type 0} → Walker S → List ℕ → Before → S → ℕ → Head → (Before → S → ℕ → List ℕ) → List ℕ
+block_walked w b p s i (Err k) later = refused_line i (number_of k)
+block_walked w b p s i (Ok h) later =
+    w.heading (is_first p) h.number h.count h.n b
+    ++ walking w (actions_in h.count b) (opened w p h.n s) i (later (record { blocks = suc p.blocks; full = eqb h.count 31; n = h.n }))
 
 -- the text of blocks one after the other, i actions having been accepted before them; "an empty file" is 8
 abbrev pub walked_from : {S : Type 0} → Walker S → List (List ℕ) → Before → S → ℕ → List ℕ
