@@ -16,7 +16,7 @@ before out text at n is fits =
 
 -- a text is put after the bytes held
 pub held_on : (known : Option (List ℕ)) (out text : List ℕ) (at : ℕ) → at + length text ≤ length out
-    → Appends (sent known out at) (sent known (sets out at text) (at + length text)) text
+    → Appends (sent known out (Some at)) (sent known (sets out at text) (Some (at + length text))) text
 held_on None out text at fits = search rules
 held_on (Some xs) out text at fits =
     let is : at + length text ≡ at + length text = omega arith in
@@ -24,7 +24,7 @@ held_on (Some xs) out text at fits =
 
 -- the bytes held are written, and a text is put in their place
 pub put_on : (old new : Option (List ℕ)) (out text : List ℕ) (at : ℕ) → Appends old new (take at out) → length text ≤ length out
-    → Appends (sent old out at) (sent new (sets out 0 text) (length text)) text
+    → Appends (sent old out (Some at)) (sent new (sets out 0 text) (Some (length text))) text
 put_on None new out text at wrote fits = search rules
 put_on (Some xs) None out text at wrote fits = elim wrote [ ]
 put_on (Some xs) (Some ys) out text at wrote fits =

@@ -1,2 +1,3 @@
 pub mod Collected
 pub mod Lines
+pub mod Reading

@@ -1,45 +1,25 @@
--- A line in a buffer: the bytes up to the next newline.
-use Rattle.std.specs.Prelude.{Bool, cond, List, ℕ, ◌+◌, ◌-◌, ◌==◌, ltb, length, take}
-use Rattle.std.specs.List.{position_or_len}
-use Rattle.std.proofs.Math.Seq.{slice}
-use Rattle.stream.specs.declared.Place.{Place}
-use Rattle.stream.specs.declared.Taken.{Taken}
-use Rattle.stream.specs.Collected.{held_of, first_of}
+-- A line in some bytes: those up to the next newline.
+use Rattle.std.specs.Prelude.{Option, Some, None, List, ℕ, ◌+◌, ◌-◌, ◌==◌, position, take, drop}
 
--- where such a byte first stands, or how many bytes there are where it does not
-abbrev pub index_of : ℕ → List ℕ → ℕ
-index_of byte bytes = position_or_len (λ x. x == byte) bytes
+-- where the first newline stands
+abbrev pub newline_of : List ℕ → Option ℕ
+newline_of bytes = position (λ byte. byte == 10) bytes
 
--- the bytes before the first newline, or all where there is none
-unfoldable pub line_of : List ℕ → List ℕ
-line_of bytes = take (index_of 10 bytes) bytes
+-- the bytes before it, or all where there is none, and those after it
+abbrev pub before : Option ℕ → List ℕ → List ℕ
+before None bytes = bytes
+before (Some newline) bytes = take newline bytes
 
-unfoldable pub has_newline : List ℕ → Bool
-has_newline bytes = ltb (index_of 10 bytes) (length bytes)
+abbrev pub after : Option ℕ → List ℕ → Option (List ℕ)
+after None bytes = None
+after (Some newline) bytes = Some (drop (newline + 1) bytes)
 
--- the place's end and start, within the buffer, and the bytes between them
-abbrev pub end_of : List ℕ → Place → ℕ
-end_of buf place = held_of place.end (length buf)
+abbrev pub line_of : List ℕ → List ℕ
+line_of bytes = before (newline_of bytes) bytes
 
-abbrev pub start_of : List ℕ → Place → ℕ
-start_of buf place = held_of place.at (end_of buf place)
-
-abbrev pub untaken : List ℕ → Place → List ℕ
-untaken buf place = slice (start_of buf place) (end_of buf place) buf
+abbrev pub rest_of : List ℕ → Option (List ℕ)
+rest_of bytes = after (newline_of bytes) bytes
 
 -- what is added to a line of so many bytes, of which some stand: what fits of the bytes before the newline
-abbrev pub added : List ℕ → Place → ℕ → ℕ → List ℕ
-added buf place size len = first_of (size - held_of len size) (line_of (untaken buf place))
-
--- the line is longer by them, and the place is after the newline, or at the end where there is none
-unfoldable pub taken_of : List ℕ → Place → ℕ → ℕ → Taken
-taken_of buf place size len =
-    let ended = has_newline (untaken buf place) in
-    record {
-      place = record {
-        at = cond ended (start_of buf place + length (line_of (untaken buf place)) + 1) (end_of buf place);
-        end = end_of buf place;
-      };
-      len = held_of len size + length (added buf place size len);
-      ended = ended;
-    }
+abbrev pub added : List ℕ → ℕ → ℕ → List ℕ
+added bytes size len = take (size - len) (line_of bytes)

@@ -1,107 +1,54 @@
 // Output and input in large parts, by way of buffers that the caller lends, and lines in such a buffer.
-// A failed write or read is told, never passed over, and why it failed is kept. Whether one fails is the operating system's answer, which no contract can say: `whole` holds it.
+// A failed write or read is told, never passed over. Whether one fails is the operating system's answer, which no contract can say.
 #![tactic(auto)]
 
-ghost use Rattle.std.specs.Prelude.{◌≡◌, true, false, cond, ◌&&◌, ◌+◌, ◌-◌, ◌≤◌, ◌<◌, length, take, IsSome};
+ghost use Rattle.std.specs.Prelude.{◌≡◌, Some, None, MatchOption, IfSome, OnOk, OnErr, IfOk, is_ok, true, false, cond, ◌+◌, ◌-◌, ◌≤◌, ◌<◌, min, length, take};
+ghost use Rattle.std.proofs.Props.{props};
 ghost use Rattle.std.proofs.lemmas.List.Edits.{sets};
 ghost use Rattle.std.specs.Counts.{IsPrefixLen};
 ghost use Rattle.std.specs.Io.KnownBytes.{Appends, Consumes, IsAtEnd};
-ghost use Rattle.stream.specs.Collected.{sent, held_of, held_in, first_of, held_after, collected, whole_after};
-ghost use Rattle.stream.specs.Lines.{added, taken_of, index_of};
+ghost use Rattle.stream.specs.Collected.{count_of, sent, taken_as, used_after, held_after, buf_after};
+ghost use Rattle.stream.specs.Lines.{newline_of, added, rest_of};
+ghost use Rattle.stream.specs.Reading.{count_read};
 
 use std::io;
 use std::io::{Eprint, Read, Write};
 
-const NEWLINE: u8 = 10;
-
-// What is written to, and why a write failed.
+// What is written to, by way of a buffer.
 #[derive(Drop)]
-pub struct Output<W> {
+pub struct Sink<'a, W> {
     pub writer: W,
-    pub failure: Option<io::Error>,
+    pub buf: &'a mut [u8],
+    // How many bytes of the buffer are still to be written. None once a write has failed: then nothing more is held or written.
+    pub held: Option<usize>,
+    ghost within: { IfSome held (λ used. used ≤ length buf.now) } by { Prim.hlevel props },
 }
 
-// What is read from, and why a read failed.
+// A read that failed: how many bytes were read before it, and why.
 #[derive(Drop)]
-pub struct Input<R> {
-    pub reader: R,
-    pub failure: Option<io::Error>,
-}
-
-// How many bytes of text a buffer holds, and whether every write so far was taken. Once one was not, nothing more is held or written.
-#[derive(Clone, Copy)]
-pub struct Held {
-    pub used: usize,
-    pub whole: bool,
-}
-
-// How many bytes were read, and whether no read failed: after a failed one more may follow.
-#[derive(Clone, Copy)]
-pub struct Filled {
+pub struct ReadError {
     pub count: usize,
-    pub whole: bool,
+    pub error: io::Error,
 }
 
-// The bytes of a buffer that are not taken yet.
-#[derive(Clone, Copy)]
-pub struct Place {
-    pub at: usize,
-    pub end: usize,
+// What stops a program: a read or a write that failed.
+#[derive(Drop)]
+pub enum Failure {
+    Input(io::Error),
+    Output(io::Error),
 }
 
-// The place after some bytes, how many the line then has, and whether its newline was met.
+impl From<ReadError> for Failure {
+    fn from(failed: ReadError) -> Failure {
+        Failure::Input(failed.error)
+    }
+}
+
+// How many bytes a line has with those that were added, and what stands after their newline: None where there is none.
 #[derive(Clone, Copy)]
-pub struct Taken {
-    pub place: Place,
+pub struct Taken<'a> {
     pub len: usize,
-    pub ended: bool,
-}
-
-impl<W> Output<W> {
-    pub fn new(writer: W) -> Output<W>
-        ensures { result.writer ≡ writer }
-    {
-        Output {
-            writer: writer,
-            failure: None,
-        }
-    }
-}
-
-impl<R> Input<R> {
-    pub fn new(reader: R) -> Input<R>
-        ensures { result.reader ≡ reader }
-    {
-        Input {
-            reader: reader,
-            failure: None,
-        }
-    }
-}
-
-// Writes a text, and answers whether all of it was taken.
-fn write<W: Write>(to: &mut Output<W>, text: &[u8]) -> bool
-    ensures failure { result ≡ false → IsSome to.new.failure }
-    ensures written { result ≡ true → Appends (W.contents to.old.writer) (W.contents to.new.writer) text.now }
-{
-    match to.writer.write_all(text) {
-        Ok(()) => true,
-        Err(e) => {
-            to.failure = Some(e);
-            false
-        }
-    }
-}
-
-// The smaller of two sizes.
-fn at_most(used: usize, size: usize) -> usize
-    ensures upper_bound { (result ≤ size) × (result ≤ used) }
-    ensures value { result ≡ held_of used size }
-{
-    if size < used {
-        return size;
-    }
-    used
+    pub rest: Option<&'a [u8]>,
 }
 
 // Copies a text into a buffer from a place on.
@@ -112,167 +59,174 @@ fn copy_at(out: &mut [u8], at: usize, text: &[u8])
     out[at..at + text.len()].copy_from_slice(text);
 }
 
-// Adds a text after the bytes held, or writes these first where it has no room.
-#[tactic(auto, using(crate::proofs::Sent::held_on, crate::proofs::Sent::put_on), unfolding(crate::specs::Collected::held_after, crate::specs::Collected::collected))]
-fn add<W: Write>(to: &mut Output<W>, out: &mut [u8], at: usize, text: &[u8]) -> Held
-    requires { at ≤ length out.old }
-    ensures used_in_bounds { result.used ≤ length out.new }
-    ensures whole_value { result.whole ≡ whole_after true out.old at text.now result.whole }
-    ensures used_value { result.used ≡ cond result.whole (held_after out.old at text.now) 0 }
-    ensures out_after { out.new ≡ cond result.whole (collected out.old at text.now) out.old }
-    ensures failure { result.whole ≡ false → IsSome to.new.failure }
-    ensures none_lost { result.whole ≡ true
-        → Appends (sent (W.contents to.old.writer) out.old at) (sent (W.contents to.new.writer) out.new result.used) text.now }
+// Writes the bytes held.
+fn write_held<W: Write>(writer: &mut W, out: &mut [u8], used: usize) -> io::Result<()>
+    requires { used ≤ length out.old }
+    ensures out { out.new ≡ out.old }
+    ensures written { OnOk result (Appends (W.contents writer.old) (W.contents writer.new) (take used out.old)) }
 {
-    if text.len() <= out.len() - at {
-        copy_at(out, at, text);
-        return Held {
-            used: at + text.len(),
-            whole: true,
-        };
+    writer.write_all(&out[..used])
+}
+
+// Adds a text after the bytes held, or writes these first where it has no room. Answers how many are held then.
+#[tactic(auto, using(crate::proofs::Sent::held_on, crate::proofs::Sent::put_on), unfolding(crate::specs::Collected::used_after, crate::specs::Collected::collected))]
+fn add<W: Write>(writer: &mut W, out: &mut [u8], used: usize, text: &[u8]) -> io::Result<usize>
+    requires { used ≤ length out.old }
+    ensures taken { is_ok result ≡ taken_as (Some used) out.old text.now (is_ok result) }
+    ensures used_in_bounds { IfOk result (λ n. n ≤ length out.new) }
+    ensures used_value { IfOk result (λ n. n ≡ used_after out.old used text.now) }
+    ensures out_after { out.new ≡ buf_after (is_ok result) out.old (Some used) text.now }
+    ensures none_lost { IfOk result (λ n. Appends (sent (W.contents writer.old) out.old (Some used)) (sent (W.contents writer.new) out.new (Some n)) text.now) }
+{
+    if text.len() <= out.len() - used {
+        copy_at(out, used, text);
+        return Ok(used + text.len());
     }
-    if !write(to, &out[..at]) {
-        return Held {
-            used: 0,
-            whole: false,
-        };
-    }
+    write_held(writer, out, used)?;
     if text.len() <= out.len() {
         copy_at(out, 0, text);
-        return Held {
-            used: text.len(),
-            whole: true,
-        };
+        return Ok(text.len());
     }
-    Held {
-        used: 0,
-        whole: write(to, text),
-    }
+    writer.write_all(text)?;
+    Ok(0)
 }
 
-// Adds the first bytes of a text to the bytes that the buffer holds; without room for them these are written out first, and what is longer than the
-// buffer is written out too. While every write is taken, what is written and then held grows by these bytes alone. After a failed write the buffer is as
-// it was, and nothing is held.
-pub fn collect<W: Write>(
-    to: &mut Output<W>,
-    out: &mut [u8],
-    held: Held,
-    text: &[u8],
-    size: usize,
-) -> Held
-    ensures prefix_len { IsPrefixLen result.used out.new }
-    ensures whole_value { result.whole ≡ whole_after held.whole out.old (held_in out.old held) (first_of size text.now) result.whole }
-    ensures used_value { result.used ≡ cond result.whole (held_after out.old (held_in out.old held) (first_of size text.now)) 0 }
-    ensures out_after { out.new ≡ cond result.whole (collected out.old (held_in out.old held) (first_of size text.now)) out.old }
-    ensures failure { held.whole ≡ true → result.whole ≡ false → IsSome to.new.failure }
-    ensures none_lost { result.whole ≡ true
-        → Appends (sent (W.contents to.old.writer) out.old (held_in out.old held)) (sent (W.contents to.new.writer) out.new result.used) (first_of size text.now) }
-{
-    if held.whole {
-        let more = at_most(size, text.len());
-        return add(to, out, at_most(held.used, out.len()), &text[..more]);
-    }
-    Held {
-        used: 0,
-        whole: held.whole,
-    }
-}
-
-// Writes what is held at the end, and answers whether every write was taken.
-pub fn flush<W: Write>(to: &mut Output<W>, out: &[u8], held: Held) -> bool
-    ensures value { result ≡ (held.whole && result) }
-    ensures failure { held.whole ≡ true → result ≡ false → IsSome to.new.failure }
-    ensures written { result ≡ true → Appends (W.contents to.old.writer) (W.contents to.new.writer) (take (held_in out.now held) out.now) }
-{
-    if !held.whole {
-        return false;
-    }
-    let used = at_most(held.used, out.len());
-    write(to, &out[..used])
-}
-
-// Reads until the buffer is full, the input ends or a read fails.
-pub fn fill<R: Read>(from: &mut Input<R>, buf: &mut [u8]) -> Filled
-    ensures prefix_len { IsPrefixLen result.count buf.new }
-    ensures failure { result.whole ≡ false → IsSome from.new.failure }
-    ensures none_lost { Consumes (R.remaining from.old.reader) (R.remaining from.new.reader) (take result.count buf.new) }
-    ensures at_end { result.whole ≡ true → result.count < length buf.new → IsAtEnd (R.remaining from.new.reader) }
-{
-    let mut done: usize = 0;
-    while done < buf.len() {
-        match from.reader.read(&mut buf[done..]) {
-            Ok(0) => {
-                return Filled {
-                    count: done,
-                    whole: true,
-                };
-            }
-            Ok(more) => done += more,
-            Err(e) => {
-                from.failure = Some(e);
-                return Filled {
-                    count: done,
-                    whole: false,
-                };
-            }
+impl<'a, W: Write> Sink<'a, W> {
+    pub fn new(writer: W, buf: &'a mut [u8]) -> Sink<'a, W>
+        ensures writer { result.writer ≡ writer }
+        ensures same_buffer { result.buf.ghost_name ≡ buf.entry.ghost_name }
+        ensures buf { result.buf.now ≡ buf.old }
+        ensures held { result.held ≡ Some 0 }
+    {
+        Sink {
+            writer,
+            buf,
+            held: Some(0),
         }
     }
-    Filled {
-        count: done,
-        whole: true,
+
+    // Takes the bytes held, and answers how many they are; with none taken back since a failed write there are none to take.
+    fn take_held(&mut self) -> io::Result<usize>
+        ensures same_buffer { self.new.buf.ghost_name ≡ self.old.buf.ghost_name }
+        ensures buf { self.new.buf.now ≡ self.old.buf.now }
+        ensures writer { self.new.writer ≡ self.old.writer }
+        ensures held { self.new.held ≡ None }
+        ensures ok { IfOk result (λ used. self.old.held ≡ Some used) }
+        ensures in_bounds { IfOk result (λ used. used ≤ length self.new.buf.now) }
+        ensures err { OnErr result (self.old.held ≡ None) }
+    {
+        self.held
+            .take()
+            .ok_or_else(|| io::Error::other("a write has failed"))
     }
+
+    // Adds a text to the bytes that the buffer holds; without room for it these are written out first, and what is longer than the buffer is written
+    // out too. While every write is taken, what is written and then held grows by the text alone. After a failed write the buffer is as it was,
+    // nothing is held, and no text is taken.
+    pub fn put(&mut self, text: &[u8]) -> io::Result<()>
+        ensures same_buffer { self.new.buf.ghost_name ≡ self.old.buf.ghost_name }
+        ensures taken { is_ok result ≡ taken_as self.old.held self.old.buf.now text.now (is_ok result) }
+        ensures held_value { self.new.held ≡ held_after (is_ok result) self.old.buf.now self.old.held text.now }
+        ensures buf_value { self.new.buf.now ≡ buf_after (is_ok result) self.old.buf.now self.old.held text.now }
+        ensures none_lost { OnOk result (Appends
+            (sent (W.contents self.old.writer) self.old.buf.now self.old.held)
+            (sent (W.contents self.new.writer) self.new.buf.now self.new.held) text.now) }
+    {
+        let used = self.take_held()?;
+        self.held = Some(add(&mut self.writer, self.buf, used, text)?);
+        Ok(())
+    }
+
+    // Writes what is held.
+    pub fn flush(&mut self) -> io::Result<()>
+        ensures same_buffer { self.new.buf.ghost_name ≡ self.old.buf.ghost_name }
+        ensures after_failure { self.old.held ≡ None → is_ok result ≡ false }
+        ensures held_value { self.new.held ≡ cond (is_ok result) (Some 0) None }
+        ensures buf_value { self.new.buf.now ≡ self.old.buf.now }
+        ensures written { OnOk result (Appends (W.contents self.old.writer) (W.contents self.new.writer) (take (count_of self.old.held) self.old.buf.now)) }
+    {
+        let used = self.take_held()?;
+        write_held(&mut self.writer, self.buf, used)?;
+        self.held = Some(0);
+        Ok(())
+    }
+
+    // Ends a program: tells what has stopped it, and writes what is held, unless a write has failed. Answers whether all was written.
+    pub fn end(&mut self, err: &impl Eprint, program: &str, outcome: Result<(), Failure>) -> bool
+        ensures same_buffer { self.new.buf.ghost_name ≡ self.old.buf.ghost_name }
+        ensures after_failure { self.old.held ≡ None → result ≡ false }
+        ensures held_value { self.new.held ≡ cond result (Some 0) None }
+        ensures buf_value { self.new.buf.now ≡ self.old.buf.now }
+        ensures written { result ≡ true → Appends (W.contents self.old.writer) (W.contents self.new.writer) (take (count_of self.old.held) self.old.buf.now) }
+    {
+        if let Err(failure) = outcome {
+            tell(err, program, failure);
+        }
+        if self.held.is_none() {
+            return false;
+        }
+        if let Err(error) = self.flush() {
+            tell(err, program, Failure::Output(error));
+            return false;
+        }
+        true
+    }
+}
+
+// Reads until the buffer is full, the input ends or a read fails; answers how many bytes were read.
+pub fn fill<R: Read>(reader: &mut R, buf: &mut [u8]) -> Result<usize, ReadError>
+    ensures prefix_len { IsPrefixLen (count_read result) buf.new }
+    ensures none_lost { Consumes (R.remaining reader.old) (R.remaining reader.new) (take (count_read result) buf.new) }
+    ensures at_end { IfOk result (λ count. count < length buf.new → IsAtEnd (R.remaining reader.new)) }
+{
+    let mut count = 0;
+    while count < buf.len() {
+        match reader.read(&mut buf[count..]) {
+            Ok(0) => break,
+            Ok(more) => count += more,
+            Err(error) => return Err(ReadError { count, error }),
+        }
+    }
+    Ok(count)
 }
 
 // Adds to the first `len` bytes of a line what fits of some bytes.
 fn append(line: &mut [u8], len: usize, more: &[u8]) -> usize
     requires { len ≤ length line.old }
     ensures upper_bound { result ≤ length line.new }
-    ensures value { result ≡ len + length (first_of (length line.old - len) more.now) }
-    ensures line_after { line.new ≡ sets line.old len (first_of (length line.old - len) more.now) }
+    ensures value { result ≡ len + length (take (length line.old - len) more.now) }
+    ensures line_after { line.new ≡ sets line.old len (take (length line.old - len) more.now) }
 {
-    let size = at_most(line.len() - len, more.len());
+    let size = more.len().min(line.len() - len);
     copy_at(line, len, &more[..size]);
     len + size
 }
 
-// How many bytes stand before the first newline, or how many there are where there is none.
-fn line_size(bytes: &[u8]) -> usize
-    ensures upper_bound { result ≤ length bytes.now }
-    ensures value { result ≡ index_of 10 bytes.now }
+fn newline_in(bytes: &[u8]) -> Option<usize>
+    ensures value { result ≡ newline_of bytes.now }
+    ensures in_bounds { IfSome result (λ newline. newline < length bytes.now) }
 {
-    for (i, byte) in bytes.iter().enumerate() {
-        if *byte == NEWLINE {
-            return i;
-        }
-    }
-    bytes.len()
+    bytes.iter().position(|byte| *byte == b'\n')
 }
 
-// Takes the bytes of a place up to the next newline, and adds them to the first `len` bytes of a line; what does not fit into it is dropped.
-pub fn take_line(buf: &[u8], place: Place, line: &mut [u8], len: usize) -> Taken
+// Takes the bytes up to the next newline, and adds them to the first `len` bytes of a line; what does not fit into it is dropped.
+pub fn take_line<'a>(bytes: &'a [u8], line: &mut [u8], len: usize) -> Taken<'a>
     ensures prefix_len { IsPrefixLen result.len line.new }
-    ensures at_lt_at { result.ended ≡ true → (place.at < result.place.at) × (result.place.at ≤ length buf.now) }
-    ensures value { result ≡ taken_of buf.now place (length line.old) len }
-    ensures line_after { line.new ≡ sets line.old (held_of len (length line.old)) (added buf.now place (length line.old) len) }
+    ensures shorter { IfSome result.rest (λ rest. length rest.now < length bytes.now) }
+    ensures len_value { result.len ≡ min len (length line.old) + length (added bytes.now (length line.old) len) }
+    ensures rest_value { MatchOption result.rest (rest_of bytes.now ≡ None) (λ rest. rest_of bytes.now ≡ Some rest.now) }
+    ensures line_after { line.new ≡ sets line.old (min len (length line.old)) (added bytes.now (length line.old) len) }
 {
-    let end = at_most(place.end, buf.len());
-    let at = at_most(place.at, end);
-    let stop = at + line_size(&buf[at..end]);
-    let size = append(line, at_most(len, line.len()), &buf[at..stop]);
-    if stop < end {
-        return Taken {
-            place: Place {
-                at: stop + 1,
-                end: end,
-            },
-            len: size,
-            ended: true,
-        };
-    }
-    Taken {
-        place: Place { at: end, end: end },
-        len: size,
-        ended: false,
+    let len = len.min(line.len());
+    match newline_in(bytes) {
+        Some(newline) => Taken {
+            len: append(line, len, &bytes[..newline]),
+            rest: Some(&bytes[newline + 1..]),
+        },
+        None => Taken {
+            len: append(line, len, bytes),
+            rest: None,
+        },
     }
 }
 
@@ -281,13 +235,9 @@ const REASON: usize = 320;
 
 // The text of an error without its number, which ends it as ` (os error 28)`.
 fn reason_of(text: &[u8]) -> &str {
-    match str::from_utf8(text) {
-        Ok(text) => match text.split_once(" (os error ") {
-            Some((reason, _)) => reason,
-            None => text,
-        },
-        Err(_) => "",
-    }
+    let text = str::from_utf8(text).unwrap_or("");
+    text.split_once(" (os error ")
+        .map_or(text, |(reason, _)| reason)
 }
 
 // Puts the text of an error into a buffer, and answers how much of it is used.
@@ -297,17 +247,24 @@ fn put_error(text: &mut [u8], error: io::Error) -> usize
     let size = text.len();
     let mut rest = &mut text[..];
     let _ = write!(rest, "{error}");
-    let left = rest.len();
-    size - at_most(left, size)
+    size.saturating_sub(rest.len())
 }
 
 // Says on standard error what failed, and why: a line as `play: standard output: No space left on device`.
-pub fn tell(err: &impl Eprint, what: &str, failure: Option<io::Error>) {
+pub fn tell(err: &impl Eprint, program: &str, failure: Failure) {
     let mut text = [0u8; REASON];
-    let size = match failure {
-        Some(error) => put_error(&mut text, error),
-        None => 0,
+    let (what, error) = match failure {
+        Failure::Input(error) => ("input", error),
+        Failure::Output(error) => ("output", error),
     };
+    let size = put_error(&mut text, error);
     let reason = reason_of(&text[..size]);
-    let _ = eprintln!(err; "{what}: {reason}");
+    let _ = eprintln!(err; "{program}: standard {what}: {reason}");
+}
+
+// Writes the whole output of a program, and tells where that fails.
+pub fn print<W: Write>(err: &impl Eprint, program: &str, writer: &mut W, text: &[u8]) {
+    if let Err(error) = writer.write_all(text) {
+        tell(err, program, Failure::Output(error));
+    }
 }
