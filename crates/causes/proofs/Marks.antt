@@ -1,44 +1,51 @@
 -- The places of a line, one after the other. Assumes nothing.
-use mathlib.Core.Path.{◌≡◌, refl}
+use mathlib.Core.Path.{◌≡◌, refl, sym}
 use mathlib.Core.Bool.{Bool, true, false, cond}
-use mathlib.Core.List.{List}
-use Prim.Native.Nat.{ℕ, zero, suc, ◌+◌, ◌-◌, ◌<◌}
+use mathlib.Core.Logic.{◌⊎◌, inl, inr}
+use Prim.Native.Nat.{ℕ, zero, suc, ◌+◌, ◌-◌, ◌<◌, ◌≤◌}
 use native.Mathlib.Omega.{arith}
-use lib.ListN.{length}
-use Rattle.causes.specs.declared.Mark.{Mark}
-use Rattle.causes.specs.Blame.{is_at, first_from, first_in, after_last}
+use Rattle.charts.proofs.Tools.{clash}
+use Rattle.causes.specs.Blame.{first_from, first_in, after_last}
 
-module _ (m : Mark) (line : List ℕ) where
-  pub first_step : (i : ℕ) → i < length line → first_from m line (length line - i) i ≡ cond (is_at m line i) i (first_from m line (length line - suc i) (suc i))
-  first_step i h = let e : length line - i ≡ suc (length line - suc i) = omega arith in rw e
+-- a place that is not before another is it, or comes after it
+same_or_after : (i r : ℕ) → i ≤ r → (r ≡ i) ⊎ (suc i ≤ r)
+same_or_after zero zero h = inl refl
+same_or_after zero (suc r) h = inr (omega arith)
+same_or_after (suc i) zero h = absurd (omega arith)
+same_or_after (suc i) (suc r) h = elim (same_or_after i r (omega arith)) [ inl e ↦ inl (omega arith) | inr g ↦ inr (omega arith) ]
 
-  pub last_step : (i : ℕ) → 0 < i → after_last m line i ≡ cond (is_at m line (i - 1)) i (after_last m line (i - 1))
-  last_step zero h = absurd (omega arith)
-  last_step (suc i) h = let e : suc i - 1 ≡ i = omega arith in rw e
-
-  -- a mark that is found is there
-  found_from : (k i : ℕ) → first_from m line k i < i + k → is_at m line (first_from m line k i) ≡ true
-  found_from zero i h = absurd (omega arith)
-  found_from (suc k) i h = go (is_at m line i) refl h (found_from k (suc i))
+module _ (p : ℕ → Bool) where
+  first_at : (k i r : ℕ) → i ≤ r → r ≤ i + k → ((j : ℕ) → j < r → p j ≡ false) → (r < i + k → p r ≡ true) → r ≡ first_from p k i
+  first_at zero i r low high before here = omega arith
+  first_at (suc k) i r low high before here =
+      go (p i) refl (same_or_after i r low) (λ e. first_at k (suc i) r e (omega arith) before (λ h. here (omega arith)))
     where
-      go : (b : Bool) → is_at m line i ≡ b → cond b i (first_from m line k (suc i)) < i + suc k
-          → (first_from m line k (suc i) < suc i + k → is_at m line (first_from m line k (suc i)) ≡ true)
-          → is_at m line (cond b i (first_from m line k (suc i))) ≡ true
-      go true e g later = e
-      go false e g later = later (omega arith)
+      go : (b : Bool) → p i ≡ b → (r ≡ i) ⊎ (suc i ≤ r) → (suc i ≤ r → r ≡ first_from p k (suc i)) → r ≡ cond b i (first_from p k (suc i))
+      go true e (inl s) later = s
+      go true e (inr s) later = clash (p i) e (before i s)
+      go false e (inl s) later = clash (p i) (rw s at (here (omega arith))) e
+      go false e (inr s) later = later s
 
-  pub found : first_in m line < length line → is_at m line (first_in m line) ≡ true
+  pub is_first : (n r : ℕ) → r ≤ n → ((j : ℕ) → j < r → p j ≡ false) → (r < n → p r ≡ true) → r ≡ first_in p n
   unfolding first_in
-  found h = found_from (length line) 0 (omega arith)
+  is_first n r high before here = first_at n 0 r (omega arith) (omega arith) before (λ h. here (omega arith))
 
-  -- and the last is not before it
-  pub last_after : (i k : ℕ) → is_at m line i ≡ true → i < k → i < after_last m line k
-  last_after i zero e h = absurd (omega arith)
-  last_after i (suc k) e h = go (is_at m line k) refl (last_after i k e)
+  pub is_last : (n r : ℕ) → r ≤ n → ((j : ℕ) → r ≤ j → j < n → p j ≡ false) → (0 < r → p (r - 1) ≡ true) → r ≡ after_last p n
+  is_last zero r high after here = omega arith
+  is_last (suc n) r high after here = go (p n) refl (same_or_after r (suc n) high) (λ e. is_last n r e (λ j a b. after j a (omega arith)) here)
     where
-      go : (b : Bool) → is_at m line k ≡ b → (i < k → i < after_last m line k) → i < cond b (suc k) (after_last m line k)
-      go true f later = h
-      go false f later = later (let other : i ≡ k → ⊥ = λ q. (let z : ◌≡◌ {A = ℕ} 0 1 = differs q f in omega arith) in omega arith)
-        where
-          differs : i ≡ k → is_at m line k ≡ false → ◌≡◌ {A = ℕ} 0 1
-          differs q g = cc
+      go : (b : Bool) → p n ≡ b → (suc n ≡ r) ⊎ (suc r ≤ suc n) → (r ≤ n → r ≡ after_last p n) → r ≡ cond b (suc n) (after_last p n)
+      go true e (inl s) later = sym s
+      go true e (inr s) later = clash (p n) e (after n (omega arith) (omega arith))
+      go false e (inl s) later = let back : suc n - 1 ≡ n = omega arith in clash (p n) (rw back at (rw (← s) at (here (omega arith)))) e
+      go false e (inr s) later = later (omega arith)
+
+  -- a place that passes is not after the last
+  pub last_after : (i k : ℕ) → p i ≡ true → i < k → i < after_last p k
+  last_after i zero e h = absurd (omega arith)
+  last_after i (suc k) e h = go (p k) refl (same_or_after i k (omega arith)) (last_after i k e)
+    where
+      go : (b : Bool) → p k ≡ b → (k ≡ i) ⊎ (suc i ≤ k) → (i < k → i < after_last p k) → i < cond b (suc k) (after_last p k)
+      go true f s later = h
+      go false f (inl s) later = clash (p i) e (rw s at f)
+      go false f (inr s) later = later (omega arith)

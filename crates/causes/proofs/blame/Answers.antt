@@ -1,20 +1,15 @@
-use Rattle.causes.specs.Blame.{blame_of}
-use lib.Seq.{length-take-le}
-use native.Mathlib.Omega.{arith}
-use borrow.Author.Tests.{lt-ltb, le-ltb}
-use mathlib.Core.Path.{sym}
+use Rattle.std.proofs.Common.{rules}
+use borrow.Author.Tests.{tests, lt-ltb, le-ltb}
+use Rattle.causes.specs.Blame.{hash_at, blame_of}
+use Rattle.causes.proofs.Marks.{is_first}
 use Rattle.causes.proofs.blame.Goals as goal
 
-pub returns-then-line-gt255 : goal.returns-then-line-gt255
+pub returns-then-line-gt255-clause-value : goal.returns-then-line-gt255-clause-value
 unfolding blame_of
-returns-then-line-gt255 c = record { value = rw (lt-ltb _ _ c.if-line-gt255.true) c.nowhere.ensures; from_le_to = rw c.nowhere.ensures (omega arith, omega arith) }
+returns-then-line-gt255-clause-value c = rw (lt-ltb _ _ c.if-line-gt255.true) c.nowhere.ensures
 
-pub slice_bounds-blame_in-end : goal.slice_bounds-blame_in-end
-slice_bounds-blame_in-end c = sym (length-take-le _ _ c.first_in-end.ensures.upper_bound)
-
-pub blame_in-requires : goal.blame_in-requires
-blame_in-requires c = let cut = length-take-le c.first_in-end.result c.args.line.now c.first_in-end.ensures.upper_bound in omega arith
-
-pub returns : goal.returns
+pub returns-clause-value : goal.returns-clause-value
 unfolding blame_of
-returns c = let cut = length-take-le c.first_in-end.result c.args.line.now c.first_in-end.ensures.upper_bound in record { value = rw (le-ltb _ _ c.if-line-gt255.false, ← c.first_in-end.ensures.value) c.blame_in.ensures.value; from_le_to = (c.blame_in.ensures.from_le_to.0, omega (arith, c.blame_in.ensures.from_le_to.1)) }
+returns-clause-value c =
+    let e1 = is_first (hash_at c.args.line.now) _ _ c.first-end.ensures.upper_bound (λ j h. let k = c.first-end.ensures.first.0 j h in search (rules, tests)) (λ h. let k = c.first-end.ensures.first.1 h in search (rules, tests)) in
+    rw (le-ltb _ _ c.if-line-gt255.false, ← e1) c.blame_in.ensures.value
