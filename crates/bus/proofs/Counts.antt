@@ -12,19 +12,19 @@ use Rattle.charts.specs.declared.Bus.{Bus}
 use Rattle.charts.specs.declared.Played.{Played}
 use Rattle.charts.specs.declared.Action.{Action}
 use Rattle.charts.specs.declared.Move.{Move}
-use Rattle.charts.specs.declared.Decoded.{Decoded}
-use Rattle.charts.specs.declared.Decoded.TheVariants.{Refused, Accepted}
+use Rattle.std.specs.Prelude.{Ok, Err}
+use Rattle.charts.specs.Numbers.{err_number}
 use Rattle.charts.specs.Modes.{is_asked}
 use Rattle.charts.specs.State.{State, askers, pendings, count, moved}
 use Rattle.charts.specs.Actions.{Outcome, closed, does, when}
-use Rattle.charts.specs.Records.{is_kind, move_of, read}
+use Rattle.charts.specs.Records.{is_kind, Decoded, move_of, read}
 use Rattle.charts.specs.Valid.{is_size, phase_fits}
 use Rattle.charts.specs.Step.{Result, carry_out, about, outcome_of, some_asked, may_act, play, step_with, is_accepted}
 use Rattle.charts.specs.Demand.{one}
 use Rattle.charts.specs.View.{view, seen, fresh_node}
 use Rattle.charts.proofs.Tools.{never, clash, pick_by, by_test}
 use Rattle.charts.proofs.Ways.{Effect, effect}
-use Rattle.charts.proofs.Steps.{Known, Decodes, turned, taken, decodes}
+use Rattle.charts.proofs.Steps.{Known, Decodes, turned, taken, decodes, refuses_it}
 use Rattle.charts.proofs.Askers.{asking}
 use Rattle.charts.proofs.Asking.{asks_kind, decides_kind}
 use Rattle.charts.proofs.Sums.{undecided_upd, count-le, count_some}
@@ -52,13 +52,13 @@ unfolding view
 counted_asked b k e = ap (ltb 0) e ∙ count_some (askers (view b).cell) b.n
 
 -- only records of kinds 1 to 12 are accepted
-taken_kind : (n : ℕ) (a : Action) (m : Move) → read n a ≡ Accepted m → is_kind a.kind ≡ true
+taken_kind : (n : ℕ) (a : Action) (m : Move) → read n a ≡ Ok m → is_kind a.kind ≡ true
 unfolding read
 taken_kind n a m e = by_test (is_kind a.kind) (λ q. q) (λ q. never (ap is_taken (rw q at e)))
   where
     is_taken : Decoded → Bool
-    is_taken (Refused k) = false
-    is_taken (Accepted m) = true
+    is_taken (Err k) = false
+    is_taken (Ok m) = true
 
 -- the number after one cell has changed
 by_kind : (kind before after : ℕ) → after + one (eqb kind 12) ≡ before + one (eqb kind 11) → after ≤ 63 → after ≡ asked_after before kind
@@ -83,7 +83,7 @@ module _ (s : State) (a : Action) where
     i = about s (move_of a)
 
     ready : Fits s.n s.phase i
-    ready = ready_read s.n s.phase (pendings s.cell) a (Accepted (move_of a)) size (taken known)
+    ready = ready_read s.n s.phase (pendings s.cell) a (Ok (move_of a)) size (taken known)
 
     out : may_act s (move_of a) ≡ true → (o : Outcome) → Effect s (move_of a) i o → Kept (carry_out s i o)
     out f closed x e = never e
@@ -101,14 +101,14 @@ module _ (s : State) (a : Action) where
 
   read_kept : (is_size s.n && phase_fits s.n s.phase) ≡ true → (d : Decoded) → read s.n a ≡ d → Decodes s.n a d → Kept (step_with s d)
   unfolding play
-  read_kept z (Refused k) q (turned o) e = clash _ e o
-  read_kept z (Accepted m) q (taken k) e = may z (taken_kind s.n a (move_of a) q) k (may_act s (move_of a)) refl e
+  read_kept z (Err k) q turned e = clash _ e (refuses_it k)
+  read_kept z (Ok m) q (taken k) e = may z (taken_kind s.n a (move_of a) q) k (may_act s (move_of a)) refl e
 
   asked_kept : Kept (advance_of s a)
   unfolding advance_of glance
   asked_kept = pick_by (λ d. Kept (step_with s d)) (is_size s.n && phase_fits s.n s.phase) _ _ (λ z. read_kept z (read s.n a) refl (decodes s.n a)) (λ z e. never e)
 
 -- the same of the arrays of a bus
-pub asked_on : (b : Bus) (a : Action) (r : Played) → seen r ≡ advance_of (view b) a → eqb r.number 0 ≡ true → askers_in r.bus.nodes r.bus.n ≡ asked_after (askers_in b.nodes b.n) a.kind
+pub asked_on : (b : Bus) (a : Action) (r : Played) → seen r ≡ advance_of (view b) a → eqb (err_number r.report) 0 ≡ true → askers_in r.bus.nodes r.bus.n ≡ asked_after (askers_in b.nodes b.n) a.kind
 unfolding view
 asked_on b a r e q = subst (Kept (view b) a) (sym e) (asked_kept (view b) a) q

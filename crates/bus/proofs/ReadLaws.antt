@@ -1,17 +1,19 @@
 -- A record that was looked at is about a node of the bus, which has a place in the arrays. Assumes nothing.
-use mathlib.Core.Path.{◌≡◌, refl, sym}
+use mathlib.Core.Path.{◌≡◌, refl, sym, ap, ◌∙◌}
+use mathlib.Core.List.{List, [], ◌∷◌}
+use lib.ListN.{get_or, take, length}
+use Rattle.std.specs.List.{list_all}
 use mathlib.Core.Bool.{Bool, true, false, cond, ◌&&◌}
-use Prim.Native.Nat.{ℕ, ◌<◌, ◌≤◌}
+use Prim.Native.Nat.{ℕ, zero, suc, ◌<◌, ◌≤◌}
 use native.Mathlib.Omega.{arith}
 use lib.Dec.{ltb}
 use borrow.Author.Tests.{ltb-true}
 use Rattle.charts.specs.declared.Phase.{Phase}
 use Rattle.charts.specs.declared.Action.{Action}
 use Rattle.charts.specs.declared.Cell.{Cell}
-use Rattle.charts.specs.declared.Marking.{Marking}
-use Rattle.charts.specs.declared.Marking.TheVariants as M
-use Rattle.charts.specs.declared.Decoded.{Decoded}
-use Rattle.charts.specs.declared.Decoded.TheVariants.{Refused, Accepted}
+use Rattle.std.specs.Prelude.{Ok, Err}
+use Rattle.charts.specs.declared.Refusal.{Refusal}
+use Rattle.charts.specs.Records.{Decoded}
 use Rattle.charts.specs.declared.Bus.{Bus}
 use Rattle.charts.specs.Records.{read}
 use Rattle.charts.specs.Step.{look}
@@ -30,14 +32,14 @@ size_below n p e = let h : n < 64 = ltb-true n 64 (and-true (ltb 1 n) _ (and-tru
 
 module _ (n : ℕ) (p : Phase) (ps : ℕ → Bool) (a : Action) where
   pub ready_read : (d : Decoded) → (is_size n && phase_fits n p) ≡ true → Decodes n a d → Ready n p ps d
-  ready_read (Refused k) e q = tt
-  ready_read (Accepted m) e (taken k) =
+  ready_read (Err k) e q = tt
+  ready_read (Ok m) e (taken k) =
       let y = and-true (is_size n) _ e in
       let h = size_below n p e in
       let two : 1 < n = ltb-true 1 n (and-true (ltb 1 n) _ y.0).0 in
       record { size = h; next = next_below n p h y.1; node = target_lt n p ps (omega arith) y.1 m k }
 
-  ready_if : (b : Bool) (k : ℕ) → (b ≡ true → (is_size n && phase_fits n p) ≡ true) → Ready n p ps (cond b (read n a) (Refused k))
+  ready_if : (b : Bool) (k : Refusal) → (b ≡ true → (is_size n && phase_fits n p) ≡ true) → Ready n p ps (cond b (read n a) (Err k))
   ready_if true k f = ready_read (read n a) (f refl) (decodes n a)
   ready_if false k f = tt
 
@@ -67,8 +69,23 @@ pub ready_look : (b : Bus) (a : Action) → Ready b.n b.phase (mark b.pending) (
 unfolding look view valid
 ready_look b a = ready_if b.n b.phase (mark b.pending) a (valid (view b)) _ (regroup (is_size b.n) (phase_fits b.n b.phase) _)
 
--- only an accepted record clears marks
-pub clearing_fits : (f : Marking → Bool) → f M.Nothing ≡ false → (b : Bus) (d : Decoded) (i : ℕ) (c : Cell) (p : Plan) → Ready b.n b.phase (mark b.pending) d →
-    (q : Bool) → p ≡ planned b.n b.phase b.concatenated q i c (mark b.won) (mark b.pending) (mark b.holder) d → f p.marking ≡ true → b.n ≤ 63
-clearing_fits f o b (Refused k) i c p r q y e = let z : ◌≡◌ {A = ℕ} 0 1 = cc in omega arith
-clearing_fits f o b (Accepted m) i c p r q y e = r.size
+-- all nodes fit if each of the first n does
+every_front : (f : ℕ → Bool) (n : ℕ) → every f (suc n) ≡ f 0 && every (λ k. f (suc k)) n
+every_front f zero = refl
+every_front f (suc n) = ap (λ b. f (suc n) && b) (every_front f n) ∙ swap (f (suc n)) (f 0) _
+  where
+    swap : (a b c : Bool) → a && (b && c) ≡ b && (a && c)
+    swap true b c = refl
+    swap false true c = refl
+    swap false false c = refl
+
+pub all_every : {A : Type 0} (f : A → Bool) (l : List A) (d : A) (n : ℕ) → n ≤ length l → list_all f (take n l) ≡ every (λ k. f (get_or l k d)) n
+all_every f l d zero h = refl
+all_every f [] d (suc n) h = absurd (omega arith)
+all_every f (x ∷ l) d (suc n) h = ap (λ b. f x && b) (all_every f l d n (omega arith)) ∙ sym (every_front (λ k. f (get_or (x ∷ l) k d)) n)
+
+-- only for an accepted record there is a plan
+pub plan_fits : (b : Bus) (d : Decoded) (i : ℕ) (c : Cell) (p : Plan) → Ready b.n b.phase (mark b.pending) d →
+    (q : Bool) → Ok p ≡ planned b.n b.phase b.concatenated q i c (mark b.won) (mark b.pending) (mark b.holder) d → b.n ≤ 63
+plan_fits b (Err k) i c p r q y = let z : ◌≡◌ {A = ℕ} 0 1 = cc in omega arith
+plan_fits b (Ok m) i c p r q y = r.size

@@ -1,12 +1,11 @@
 -- A plan carried out on the arrays of a bus is the charts' step on its view. Assumes nothing.
-use mathlib.Core.Path.{◌≡◌, refl, sym, ap, ◌∙◌, fun_ext}
+use mathlib.Core.Path.{◌≡◌, refl, sym, ◌∙◌, fun_ext}
 use mathlib.Core.Bool.{Bool, true, false, cond, ◌&&◌, not}
 use mathlib.Core.List.{List, map}
 use Prim.Native.Nat.{ℕ, zero, suc, ◌<◌}
 use native.Mathlib.Omega.{arith}
 use lib.Dec.{eqb, ltb}
 use lib.ListN.{get_or, set, length, length-map, replicate}
-use borrow.Author.Tests.{eqb-true}
 use Rattle.charts.specs.declared.Node.{Node}
 use Rattle.charts.specs.declared.Bus.{Bus}
 use Rattle.charts.specs.declared.Cell.{Cell}
@@ -14,15 +13,15 @@ use Rattle.charts.specs.declared.Phase.{Phase}
 use Rattle.charts.specs.declared.Phase.TheVariants.{Idle}
 use Rattle.charts.specs.declared.Marking.{Marking}
 use Rattle.charts.specs.declared.Marking.TheVariants as M
-use Rattle.charts.specs.declared.Decoded.{Decoded}
-use Rattle.charts.specs.declared.Decoded.TheVariants.{Refused, Accepted}
+use Rattle.std.specs.Prelude.{Ok, Err}
+use Rattle.charts.specs.Numbers.{number_of}
+use Rattle.charts.specs.Records.{Decoded}
 use Rattle.charts.specs.Actions.{Outcome, closed, does}
 use Rattle.charts.specs.State.{State, upd, moved, concatenated_after, remarked, wons, pendings, holders, fresh, fresh_cell}
-use Rattle.charts.specs.Step.{Result, play, step_with, carry_out, about, some_asked, comes_to}
+use Rattle.charts.specs.Step.{Result, play, refuses, step_with, carry_out, about, some_asked, comes_to}
 use Rattle.charts.specs.View.{view, cell_of, mark, fresh_node, Sized}
-use Rattle.deciding.specs.declared.plans.Plan.{Plan}
 use Rattle.deciding.specs.Marks.{unmarked, clears_misled, clears_won}
-use Rattle.deciding.specs.Plans.{settled, aimed, planned}
+use Rattle.deciding.specs.Plans.{Planned, settled, aimed, planned}
 use Rattle.charts.proofs.Views.{get_d_set}
 
 pub view_n : (b : Bus) → (view b).n ≡ b.n
@@ -101,26 +100,13 @@ stored b p i c x v w m o z l ev ew em eo = by x ew em eo
     by M.Won ew em eo = λ t. record { n = b.n; phase = p; concatenated = eo t; cell = fun_ext (λ k. (λ t. marks k (ew t k) (em t k)) ∙ at (λ q. q && not (ltb k b.n)) (λ q. q) k) t }
     by (M.Concatenated y) ew em eo = λ t. record { n = b.n; phase = p; concatenated = eo t; cell = fun_ext (λ k. (λ t. marks k (ew t k) (em t k)) ∙ at (λ q. q) (λ q. q) k) t }
 
--- a cell put back where it was
-kept : (s : State) (i : ℕ) → moved s s.phase i (s.cell i) ≡ s
-kept s i = λ t. record { n = s.n; phase = s.phase; concatenated = s.concatenated; cell = fun_ext same t }
-  where
-    same : (k : ℕ) → upd s.cell i (s.cell i) k ≡ s.cell k
-    same k = go (eqb k i) refl
-      where
-        go : (o : Bool) → eqb k i ≡ o → cond o (s.cell i) (s.cell k) ≡ s.cell k
-        go true e = ap s.cell (sym (eqb-true k i e))
-        go false e = refl
+-- what a step returns that is planned: a plan for node i carried out, or the refusal
+abbrev pub applied : State → ℕ → Planned → Result
+applied s i (Ok p) = record { number = 0; report = p.report; state = remarked p.marking (moved s p.phase i p.cell) }
+applied s i (Err k) = refuses s (number_of k)
 
--- a plan for node i carried out on a state
-abbrev pub applied : State → ℕ → Plan → Result
-applied s i p = record { number = p.number; report = p.report; state = remarked p.marking (moved s p.phase i p.cell) }
-
-abbrev pub result_of : Plan → State → Result
-result_of p s = record { number = p.number; report = p.report; state = s }
-
-plays : (s : State) (i : ℕ) (o : Outcome) → applied s i (settled s.phase (s.cell i) o) ≡ carry_out s i o
-plays s i closed = ap {B = Result} (λ s. record { number = 7; report = _; state = s }) (kept s i)
+plays : (s : State) (i : ℕ) (o : Outcome) → applied s i (settled o) ≡ carry_out s i o
+plays s i closed = refl
 plays s i (does r p c x) = refl
 
 abbrev aim : State → Decoded → ℕ
@@ -128,10 +114,10 @@ aim s d = aimed s.n s.phase (pendings s.cell) d
 
 steps : (s : State) (d : Decoded) → applied s (aim s d) (planned s.n s.phase s.concatenated (some_asked s) (aim s d) (s.cell (aim s d)) (wons s.cell) (pendings s.cell) (holders s.cell) d) ≡ step_with s d
 unfolding play
-steps s (Refused k) = ap {B = Result} (λ s. record { number = k; report = _; state = s }) (kept s 0)
-steps s (Accepted m) = plays s (about s m) (comes_to s m)
+steps s (Err k) = refl
+steps s (Ok m) = plays s (about s m) (comes_to s m)
 
-pub carried : (b : Bus) (d : Decoded) (i : ℕ) (c : Cell) (p : Plan) → i ≡ aimed b.n b.phase (mark b.pending) d →
+pub carried : (b : Bus) (d : Decoded) (i : ℕ) (c : Cell) (p : Planned) → i ≡ aimed b.n b.phase (mark b.pending) d →
     c ≡ cell_of (get_or b.nodes i fresh_node) (mark b.won i) (mark b.pending i) (mark b.holder i) (mark b.misled i) →
     p ≡ planned b.n b.phase b.concatenated (some_asked (view b)) i c (mark b.won) (mark b.pending) (mark b.holder) d →
     applied (view b) i p ≡ step_with (view b) d

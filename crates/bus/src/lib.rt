@@ -3,27 +3,24 @@
 
 ghost use Rattle.std.specs.Prelude.{◌≡◌, ◌<◌};
 ghost use Rattle.charts.specs.State.{fresh};
-ghost use Rattle.charts.specs.Step.{begin, look, step, step_with};
+ghost use Rattle.charts.specs.Step.{begin, look, step, step_with, some_asked};
 ghost use Rattle.charts.specs.View.{view, mark, seen, seen_begun};
+ghost use Rattle.link.specs.Reading.{cells};
 ghost use Rattle.bus.specs.Advance.{glance, advance_of};
 ghost use Rattle.deciding.specs.Plans.{Ready, aimed};
 
-use charts::{Action, Begun, Buffer, Bus, Decoded, Head, Mode, Node, Packet, Phase, Played};
-use deciding::{cells, marks, plans};
+use charts::{Action, Begun, Bus, Head, Mode, Move, Node, Packet, Phase, Played, Refusal, Report};
+use deciding::{Scene, cells, marks, plans};
 
 mod aiming;
 pub mod asking;
 pub mod validity;
 
-const WRONG_SIZE: u8 = 1;
-
-const NOT_VALID: u8 = 12;
-
 // A bus in Idle with no marks, every node in Rest, buffers empty.
 fn blank(n: u8) -> Bus
     ensures { view result ≡ fresh n }
 {
-    let packet = Packet {
+    let sending = Packet {
         to: 0,
         head: Head {
             header: 0,
@@ -31,109 +28,99 @@ fn blank(n: u8) -> Bus
         },
         datum: 0,
     };
-    let node = Node {
-        mode: Mode::Rest,
-        buffer: Buffer::Empty,
-        sending: packet,
-    };
-    let nodes = [node; 63];
-    let unmarked = [false; 63];
     Bus {
-        n: n,
+        n,
         phase: Phase::Idle,
-        nodes: nodes,
-        won: unmarked,
-        pending: unmarked,
-        holder: unmarked,
-        misled: unmarked,
+        nodes: [Node {
+            mode: Mode::Rest,
+            buffer: None,
+            sending,
+        }; 63],
+        won: [false; 63],
+        pending: [false; 63],
+        holder: [false; 63],
+        misled: [false; 63],
         concatenated: false,
     }
 }
 
 // A fresh bus of n nodes, or number 1.
+#[tactic(auto, unfolding(charts::specs::Step::begin))]
 pub fn fresh(n: u8) -> Begun
     ensures { seen_begun result ≡ begin n }
 {
-    if validity::is_size(n) {
+    if record::is_size(n) {
         Begun {
-            number: 0,
+            refusal: None,
             bus: blank(n),
         }
     } else {
         Begun {
-            number: WRONG_SIZE,
+            refusal: Some(Refusal::WrongSize),
             bus: blank(0),
         }
     }
 }
 
-// A record that was looked at, carried out. This function alone holds the bus's record; the others take small values. It reads one cell, writes one cell
-// and has one exit: each further place that hands the record on would copy it whole.
-fn carry_out(b: Bus, d: Decoded) -> Played
+// A record that was looked at, carried out on the bus where it lies, by the table that is lent: one cell is read and one is written. A refusal leaves the bus as it is.
+fn carry_out(
+    bus: &mut Bus,
+    table: &[u16; 350],
+    asked: bool,
+    d: Result<Move, Refusal>,
+) -> Result<Report, Refusal>
+    requires { Ready bus.old.n bus.old.phase (mark bus.old.pending) d }
+    ensures { table.now ≡ cells → asked ≡ some_asked (view bus.old) → seen (record { report = result; bus = bus.new }) ≡ step_with (view bus.old) d }
+{
+    let i = aiming::aim(bus.n, bus.phase, &bus.pending, d);
+    let at = i as usize;
+    let cell = cells::cell_of(
+        bus.nodes[at],
+        bus.won[at],
+        bus.pending[at],
+        bus.holder[at],
+        bus.misled[at],
+    );
+    let scene = Scene {
+        n: bus.n,
+        phase: bus.phase,
+        concatenated: bus.concatenated,
+        asked,
+        won: &bus.won,
+        pending: &bus.pending,
+        holder: &bus.holder,
+    };
+    let plan = deciding::plan(table, scene, i, cell, d)?;
+    bus.phase = plan.phase;
+    bus.nodes[at] = cells::node_of(plan.cell);
+    bus.won[at] = plan.cell.won;
+    bus.pending[at] = plan.cell.pending;
+    bus.holder[at] = plan.cell.holder;
+    bus.misled[at] = plan.cell.misled;
+    marks::clear(&mut bus.misled, plans::clears_misled(plan.marking), bus.n);
+    marks::clear(&mut bus.won, plans::clears_won(plan.marking), bus.n);
+    bus.concatenated = plans::concatenated_after(plan.marking, bus.concatenated);
+    Ok(plan.report)
+}
+
+// A record carried out on a bus that is handed over. The copy that is changed is made here alone: each further place that hands the bus on would copy it whole.
+fn hand_on(b: Bus, d: Result<Move, Refusal>) -> Played
     requires { Ready b.n b.phase (mark b.pending) d }
     ensures { seen result ≡ step_with (view b) d }
 {
-    let n = b.n;
-    let phase = b.phase;
-    let mut nodes = b.nodes;
-    let mut won = b.won;
-    let mut pending = b.pending;
-    let mut holder = b.holder;
-    let mut misled = b.misled;
-    let concatenated = b.concatenated;
-    let asked = asking::askers(nodes, n);
-    let i = aiming::aim(n, phase, &pending, d);
-    let at = i as usize;
-    let node = nodes[at];
-    let c = cells::cell_of(node, won[at], pending[at], holder[at], misled[at]);
-    let table = link::table::table();
-    let plan = deciding::plan(
-        &table,
-        n,
-        phase,
-        concatenated,
-        0 < asked,
-        i,
-        c,
-        &won,
-        &pending,
-        &holder,
-        d,
-    );
-    let next = plan.cell;
-    nodes[at] = cells::node_of(next);
-    won[at] = next.won;
-    pending[at] = next.pending;
-    holder[at] = next.holder;
-    misled[at] = next.misled;
-    let marking = plan.marking;
-    marks::clear(&mut misled, plans::clears_misled(marking), n);
-    marks::clear(&mut won, plans::clears_won(marking), n);
-    let phase_then = plan.phase;
-    let report = plan.report;
-    let then = Bus {
-        n: n,
-        phase: phase_then,
-        nodes: nodes,
-        won: won,
-        pending: pending,
-        holder: holder,
-        misled: misled,
-        concatenated: plans::concatenated_after(marking, concatenated),
-    };
-    Played {
-        number: plan.number,
-        report: report,
-        bus: then,
-    }
+    let mut bus = b;
+    let asked = 0 < asking::askers(&bus.nodes, bus.n);
+    let report = carry_out(&mut bus, &link::table::table(), asked, d);
+    Played { report, bus }
 }
 
 // "A step looks at 12, then 2 to 7": 7 is left to the deciding functions.
-fn look(b: Bus, a: Action) -> Decoded
+#[tactic(auto, using(crate::proofs::ViewLaws::view_n), unfolding(charts::specs::Step::look))]
+fn look(b: Bus, a: Action) -> Result<Move, Refusal>
     ensures { result ≡ look (view b) a }
 {
     if !validity::is_valid(b) {
-        return Decoded::Refused(NOT_VALID);
+        return Err(Refusal::NotValid);
     }
     record::decode(b.n, a)
 }
@@ -142,17 +129,19 @@ fn look(b: Bus, a: Action) -> Decoded
 pub fn step(b: Bus, a: Action) -> Played
     ensures { seen result ≡ step (view b) a }
 {
-    carry_out(b, look(b, a))
+    hand_on(b, look(b, a))
 }
 
 // The clauses of 12 that make a step safe, then 2 to 6 (13 and 15 after 5).
-fn glance(n: u8, phase: Phase, a: Action) -> Decoded
+#[tactic(auto, unfolding(crate::specs::Advance::glance))]
+fn glance(n: u8, phase: Phase, a: Action) -> Result<Move, Refusal>
     ensures { result ≡ glance n phase a }
 {
-    if !validity::is_safe(n, phase) {
-        return Decoded::Refused(NOT_VALID);
+    if validity::is_safe(n, phase) {
+        record::decode(n, a)
+    } else {
+        Err(Refusal::NotValid)
     }
-    record::decode(n, a)
 }
 
 // The same step on every valid state (proofs/Advances.antt), without the look at every node's record: a player, whose bus is valid from the fresh one on,
@@ -160,27 +149,34 @@ fn glance(n: u8, phase: Phase, a: Action) -> Decoded
 pub fn advance(b: Bus, a: Action) -> Played
     ensures { seen result ≡ advance_of (view b) a }
 {
-    let phase = b.phase;
-    carry_out(b, glance(b.n, phase, a))
+    hand_on(b, glance(b.n, b.phase, a))
+}
+
+// For a player: the same on the bus where it lies, which a refusal leaves as it is. The player takes the chart's table once (`link::table::table`) and lends it,
+// and keeps for itself whether some node is Asked (`asking`).
+pub fn play(bus: &mut Bus, table: &[u16; 350], asked: bool, a: Action) -> Result<Report, Refusal>
+    ensures { table.now ≡ cells → asked ≡ some_asked (view bus.old) → seen (record { report = result; bus = bus.new }) ≡ advance_of (view bus.old) a }
+{
+    let d = glance(bus.n, bus.phase, a);
+    carry_out(bus, table, asked, d)
 }
 
 // The node that a record is about, and the record looked at.
 #[derive(Clone, Copy)]
 pub struct Aimed {
     pub node: u8,
-    pub decoded: Decoded,
+    pub decoded: Result<Move, Refusal>,
 }
 
-// For a player that keeps the nodes' records and the marks in its own arrays and plays in place: at which node `advance` reads and writes.
+// For a player that keeps more of each node than the bus does: at which node `advance` reads and writes.
 pub fn aim(n: u8, phase: Phase, pending: &[bool; 63], a: Action) -> Aimed
     ensures decoded_value { result.decoded ≡ glance n phase a }
     ensures node_value { result.node ≡ aimed n phase (mark pending.now) (glance n phase a) }
     ensures node_bound { result.node < 63 }
 {
     let decoded = glance(n, phase, a);
-    let node = aiming::aim(n, phase, pending, decoded);
     Aimed {
-        node: node,
-        decoded: decoded,
+        node: aiming::aim(n, phase, pending, decoded),
+        decoded,
     }
 }

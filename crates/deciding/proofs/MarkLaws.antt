@@ -2,7 +2,7 @@
 use Rattle.std.proofs.Common.{◌≡◌, refl, sym, ap, ap₂, ◌∙◌, Bool, true, false, cond, ◌&&◌, ◌||◌, not, List, ◌++◌, ℕ, zero, suc, ◌+◌, ◌-◌, ◌<◌, ◌≤◌, eqb, ltb, min, arith, length, set, drop, replicate, Option, Some, None}
 use mathlib.Core.Path.{fun_ext}
 use borrow.Author.Tests.{eqb-true, ne_eqb, ltb-true, ltb-false}
-use Rattle.std.specs.Option.{MatchOption}
+use Rattle.std.specs.Option.{MatchOption, unwrap_or}
 use Rattle.std.specs.List.{list_any, range_with_len}
 use Rattle.std.proofs.Math.ListN.{get_or-eq_default}
 use Rattle.std.proofs.lemmas.List.{length-replicate, get_or-replicate, get_or_append_left, get_or-append_right, get_or-drop}
@@ -93,6 +93,9 @@ found_lowest l m n (Some i) s e h =
     let z : some (mark l) n ≡ true = sym (some_first (mark l) m n e (λ k g. past l k s g)) ∙ some_at (mark l) m i h.1 h.2 in
     let w : lowest (mark l) n 0 ≡ i = sym (lowest_first (mark l) m n 0 e (λ k g. past l k s g)) ∙ lowest_is (mark l) m i 0 h.1 h.2 (λ k g. h.3 k (omega arith) g) in
     rw (z, w)
+
+pub first_or : (f : ℕ → Bool) (n : ℕ) → unwrap_or (first_marked f n) 0 ≡ lowest f n 0
+first_or f n = by_test (some f n) (λ t. rw t) (λ t. rw (t, lowest_none f n 0 t))
 
 -- once the mark of node i is set to `own`
 pub some_own : (f : ℕ → Bool) (i n : ℕ) (own : Bool) → some (upd f i own) n ≡ (own && ltb i n || others f i n)
