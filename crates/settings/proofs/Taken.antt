@@ -6,20 +6,20 @@ use Prim.Native.Nat.{ℕ, suc}
 use native.Mathlib.Omega.{arith}
 use borrow.Author.Tests.{eqb-true, eqb-false, ltb-true, lt-ltb, ne_eqb}
 use lib.Dec.{eqb, ltb}
+use Rattle.std.proofs.Common.{Result, Ok, Err}
 use Rattle.charts.specs.Numbers as N
+use Rattle.charts.specs.declared.Refusal.TheVariants as R
 use Rattle.charts.specs.Records.{is_address, is_own}
 use Rattle.charts.specs.State.{upd}
 use Rattle.charts.specs.Trials.{stray_address, own_address, trial_number}
 use Rattle.charts.specs.Valid.{is_size}
-use Rattle.charts.proofs.Tools.{some-none}
+use Rattle.charts.proofs.Tools.{some-none, and-true}
 use Rattle.charts.specs.declared.User.{User}
-use Rattle.runfile.proofs.Loops.{and_left}
+use Rattle.faults.specs.declared.Fault.{Fault}
 use Rattle.faults.specs.declared.Fault.TheVariants as F
 use Rattle.notation.specs.declared.Text.TheVariants as T
 use Rattle.notation.specs.declared.Line.{Line}
 use Rattle.notation.specs.declared.Line.TheVariants as L
-use Rattle.notation.specs.declared.Stage.{Stage}
-use Rattle.notation.specs.declared.Stage.TheVariants.{Going, Stopped}
 use Rattle.notation.specs.Grammar.{line_of}
 use Rattle.notation.specs.Reading.{nodes_stage}
 use Rattle.notation.specs.Meaning.{lines_of, unmarked}
@@ -41,9 +41,9 @@ FineSaid (off f) = Unit
 not_both : {P : Type 0} {b : Bool} → b ≡ true → b ≡ false → P
 not_both e f = absurd (let z : true ≡ false = sym e ∙ f in let y : ◌≡◌ {A = ℕ} 0 1 = cc in omega arith)
 
-stage_fine : (w : Said) (x : Stage) → (x ≡ Going → FineSaid w) → FineSaid (said_if w x)
-stage_fine w Going h = h refl
-stage_fine w (Stopped f) h = tt
+stage_fine : (w : Said) (x : Result Unit Fault) → (x ≡ Ok (tt {0}) → FineSaid w) → FineSaid (said_if w x)
+stage_fine w (Ok u) h = h refl
+stage_fine w (Err f) h = tt
 
 -- a user's line that goes on follows the `nodes` line, and sends to an address, not to its own node
 record Sent (n i address : ℕ) : Type 0 where
@@ -51,12 +51,12 @@ record Sent (n i address : ℕ) : Type 0 where
   known : is_address n address ≡ true
   else : is_own i address ≡ false
 
-sends : (n i address : ℕ) → user_stage n i address ≡ Going → Sent n i address
+sends : (n i address : ℕ) → user_stage n i address ≡ Ok (tt {0}) → Sent n i address
 unfolding user_stage
 sends n i address e = go (eqb n 0) (ltb i n) (is_address n address) (is_own i address) refl refl refl e
   where
     go : (b c d o : Bool) → eqb n 0 ≡ b → is_address n address ≡ d → is_own i address ≡ o
-        → cond b (Stopped F.NodesMissing) (cond (not c) (Stopped (F.Refused N.wrong_node)) (cond (not d) (Stopped (F.Refused N.wrong_address)) (cond o (Stopped (F.Refused N.to_itself)) Going))) ≡ Going
+        → cond b (Err F.NodesMissing) (cond (not c) (Err (F.Refused R.WrongNode)) (cond (not d) (Err (F.Refused R.WrongAddress)) (cond o (Err (F.Refused R.ToItself)) (Ok (tt {0}))))) ≡ Ok (tt {0})
         → Sent n i address
     go false true true false p q r h = record { after = p; known = q; else = r }
     go false true true true p q r h = absurd (let z : ◌≡◌ {A = ℕ} 0 1 = cc in omega arith)
@@ -65,10 +65,10 @@ sends n i address e = go (eqb n 0) (ltb i n) (is_address n address) (is_own i ad
     go true c d o p q r h = absurd (let z : ◌≡◌ {A = ℕ} 0 1 = cc in omega arith)
 
 module _ (n k : ℕ) (us : ℕ → User) (fine : Fine n us) where
-  nodes_fine : (m : ℕ) → nodes_stage n m ≡ Going → Fine m us
+  nodes_fine : (m : ℕ) → nodes_stage n m ≡ Ok (tt {0}) → Fine m us
   nodes_fine m e =
       let first = sized_nodes n m e in
-      let low = ltb-true 1 m (and_left (ltb 1 m) _ first.1) in
+      let low = ltb-true 1 m ((and-true (ltb 1 m) _ first.1).0) in
       record {
         none = λ z. not_both z (ne_eqb m 0 (λ q. omega arith));
         size = λ z. first.1;
@@ -76,7 +76,7 @@ module _ (n k : ℕ) (us : ℕ → User) (fine : Fine n us) where
         other = fine.other;
       }
 
-  user_fine : (i : ℕ) (u : User) → user_stage n i u.address ≡ Going → Fine n (upd us i u)
+  user_fine : (i : ℕ) (u : User) → user_stage n i u.address ≡ Ok (tt {0}) → Fine n (upd us i u)
   user_fine i u e =
       let goes = sends n i u.address e in
       record { none = λ z. not_both z goes.after; size = fine.size; sent = λ z j. go j goes.known (fine.sent z j) (eqb j i); other = λ j z. apart j goes.else (fine.other j z) (eqb j i) refl }
@@ -89,14 +89,14 @@ module _ (n k : ℕ) (us : ℕ → User) (fine : Fine n us) where
       apart j p q true e = ap (λ (m : ℕ). is_own m u.address) (eqb-true j i e) ∙ p
       apart j p q false e = q
 
-  line_fine : (x : Line) → FineSaid (line_on n k us x)
-  line_fine L.Blank = fine
-  line_fine (L.Nodes m) = stage_fine (on m k us) (nodes_stage n m) (nodes_fine m)
-  line_fine (L.Acts a t) = tt
-  line_fine (L.Actions j) = stage_fine (on n j us) (actions_stage n) (λ e. fine)
-  line_fine (L.User i u) = stage_fine (on n k (upd us i u)) (user_stage n i u.address) (user_fine i u)
-  line_fine (L.Finds q d) = tt
-  line_fine (L.Wrong f) = tt
+  line_fine : (x : Result Line Fault) → FineSaid (line_on n k us x)
+  line_fine (Ok L.Blank) = fine
+  line_fine (Ok (L.Nodes m)) = stage_fine (on m k us) (nodes_stage n m) (nodes_fine m)
+  line_fine (Ok (L.Acts a t)) = tt
+  line_fine (Ok (L.Actions j)) = stage_fine (on n j us) (actions_stage n) (λ e. fine)
+  line_fine (Ok (L.User i u)) = stage_fine (on n k (upd us i u)) (user_stage n i u.address) (user_fine i u)
+  line_fine (Ok (L.Finds q d)) = tt
+  line_fine (Err f) = tt
 
 abbrev Takes : Meaning → Type 0
 Takes (trial n k us) = trial_number us n k ≡ N.accepted
@@ -111,7 +111,7 @@ end_takes i n k us fine = go (eqb n 0) (is_own 0 (us 0).address) (eqb k 0) refl 
     all_other o j false e = fine.other j e
 
     go : (b o c : Bool) → eqb n 0 ≡ b → is_own 0 (us 0).address ≡ o → eqb k 0 ≡ c
-        → Takes (end_on i (trial n k us) (cond b (Stopped F.NodesMissing) (cond o (Stopped F.NoUser) (cond c (Stopped F.NoAction) Going))))
+        → Takes (end_on i (trial n k us) (cond b (Err F.NodesMissing) (cond o (Err F.NoUser) (cond c (Err F.NoAction) (Ok (tt {0}))))))
     go true o c p r q = tt
     go false true c p r q = tt
     go false false true p r q = tt

@@ -1,14 +1,13 @@
 -- What a whole text of settings means: n, the number of actions and the users, or its first fault with the line that has it.
-use Rattle.std.specs.Prelude.{false, List, [], ◌∷◌, ℕ, suc}
+use Rattle.std.specs.Prelude.{List, [], ◌∷◌, ℕ, suc, Result, Ok, Err}
 use Rattle.charts.specs.State.{upd}
+use Rattle.charts.specs.View.{no_user}
 use Rattle.charts.specs.declared.User.{User}
 use Rattle.faults.specs.declared.Fault.{Fault}
 use Rattle.faults.specs.declared.Fault.TheVariants.{UnknownWord}
 use Rattle.notation.specs.declared.Text.TheVariants as T
 use Rattle.notation.specs.declared.Line.{Line}
 use Rattle.notation.specs.declared.Line.TheVariants as L
-use Rattle.notation.specs.declared.Stage.{Stage}
-use Rattle.notation.specs.declared.Stage.TheVariants.{Going, Stopped}
 use Rattle.notation.specs.Grammar.{line_of}
 use Rattle.notation.specs.Reading.{nodes_stage}
 use Rattle.notation.specs.Meaning.{lines_of, unmarked}
@@ -24,24 +23,24 @@ pub data Said : Type 0 where
   on : ℕ → ℕ → (ℕ → User) → Said
   off : Fault → Said
 
-abbrev pub said_if : Said → Stage → Said
-said_if s Going = s
-said_if s (Stopped f) = off f
+abbrev pub said_if : Said → Result Unit Fault → Said
+said_if s (Ok u) = s
+said_if s (Err f) = off f
 
 -- "the first line that is not blank is `nodes`"; "Of two lines about the same user, or about the actions, the later one counts, whole."
-abbrev pub line_on : ℕ → ℕ → (ℕ → User) → Line → Said
-line_on n k us L.Blank = on n k us
-line_on n k us (L.Nodes m) = said_if (on m k us) (nodes_stage n m)
-line_on n k us (L.Acts a t) = off UnknownWord
-line_on n k us (L.Actions j) = said_if (on n j us) (actions_stage n)
-line_on n k us (L.User i u) = said_if (on n k (upd us i u)) (user_stage n i u.address)
-line_on n k us (L.Finds q d) = off UnknownWord
-line_on n k us (L.Wrong f) = off f
+abbrev pub line_on : ℕ → ℕ → (ℕ → User) → Result Line Fault → Said
+line_on n k us (Ok L.Blank) = on n k us
+line_on n k us (Ok (L.Nodes m)) = said_if (on m k us) (nodes_stage n m)
+line_on n k us (Ok (L.Acts a t)) = off UnknownWord
+line_on n k us (Ok (L.Actions j)) = said_if (on n j us) (actions_stage n)
+line_on n k us (Ok (L.User i u)) = said_if (on n k (upd us i u)) (user_stage n i u.address)
+line_on n k us (Ok (L.Finds q d)) = off UnknownWord
+line_on n k us (Err f) = off f
 
 -- the end "has the number of its last line"
-abbrev pub end_on : ℕ → Meaning → Stage → Meaning
-end_on i m Going = m
-end_on i m (Stopped f) = wrong i f
+abbrev pub end_on : ℕ → Meaning → Result Unit Fault → Meaning
+end_on i m (Ok u) = m
+end_on i m (Err f) = wrong i f
 
 abbrev pub after_line : ℕ → Said → (ℕ → ℕ → (ℕ → User) → Meaning) → Meaning
 after_line i (on n k us) next = next n k us
@@ -54,7 +53,7 @@ settings_from (t ∷ ts) i n k us = after_line (suc i) (line_on n k us (line_of 
 
 -- "What is not said is 0, and release"
 abbrev pub unsaid : User
-unsaid = record { spell = 0; address = 0; fillers = 0; hold = false; period = 0 }
+unsaid = no_user
 
 unfoldable pub settings_of : List ℕ → Meaning
 settings_of text = settings_from (lines_of (unmarked text)) 0 0 0 (λ i. unsaid)

@@ -1,25 +1,26 @@
 // Reads the settings of a load trial from the lines of a text.
 #![tactic(auto)]
 
-ghost use Rattle.std.specs.Prelude.{◌≡◌};
-ghost use Rattle.settings.specs.Settings.{stopped, on_line, with_user, user_stage, nodes_taken, actions_taken, user_taken, line_taken, feed_of, finish_of, started};
+ghost use Rattle.std.specs.Prelude.{◌≡◌, set};
+ghost use Rattle.settings.specs.Settings.{stopped, ended, user_stage, nodes_taken, actions_taken, user_taken, line_taken, feed_of, end_of, finish_of, started};
 
-use charts::{User, Users};
+use charts::{Refusal, User, Users};
 use faults::Fault;
-use notation::{Line, Stage, Text};
+use notation::{Line, Text};
 
-const PLACES: usize = 63;
+// A user that asks for nothing.
+const UNSAID: User = User {
+    spell: 0,
+    address: 0,
+    fillers: 0,
+    hold: false,
+    period: 0,
+};
 
-const WRONG_NODE: u8 = 4;
-
-const WRONG_ADDRESS: u8 = 5;
-
-const TO_ITSELF: u8 = 15;
-
-// The settings between two calls: the line last fed, n (0 before the `nodes` line), the number of actions, and the users.
+// The settings between two calls: the fault that has stopped them, the line last fed, n (0 before the `nodes` line), the number of actions, and the users.
 #[derive(Clone, Copy)]
 pub struct Settings {
-    pub stage: Stage,
+    pub fault: Option<Fault>,
     pub line: u64,
     pub n: u8,
     pub actions: u16,
@@ -30,169 +31,142 @@ pub struct Settings {
 pub fn start() -> Settings
     ensures { result ≡ started }
 {
-    let users = Users {
-        spell: [0u8; 63],
-        address: [0u8; 63],
-        fillers: [0u8; 63],
-        hold: [false; 63],
-        period: [0u8; 63],
-    };
     Settings {
-        stage: Stage::Going,
+        fault: None,
         line: 0,
         n: 0,
         actions: 0,
-        users: users,
+        users: [UNSAID; 63],
     }
 }
 
 fn stop(s: Settings, fault: Fault) -> Settings
     ensures { result ≡ stopped s fault }
 {
-    let users = s.users;
     Settings {
-        stage: Stage::Stopped(fault),
-        line: s.line,
-        n: s.n,
-        actions: s.actions,
-        users: users,
+        fault: Some(fault),
+        ..s
     }
 }
 
-fn on_line(mut s: Settings, line: u64) -> Settings
-    ensures { result ≡ on_line s line }
+#[tactic(auto, unfolding(crate::specs::Settings::nodes_taken))]
+fn take_nodes(s: Settings, n: u8) -> Result<Settings, Fault>
+    ensures { ended s result ≡ nodes_taken s n }
 {
-    s.line = line;
-    s
+    notation::nodes_stage(s.n, n)?;
+    Ok(Settings { n, ..s })
 }
 
-fn take_nodes(mut s: Settings, n: u8) -> Settings
-    ensures { result ≡ nodes_taken s n }
-{
-    let stage = notation::nodes_stage(s.n, n);
-    if let Stage::Stopped(fault) = stage {
-        return stop(s, fault);
-    }
-    s.n = n;
-    s
-}
-
-fn take_actions(mut s: Settings, k: u16) -> Settings
-    ensures { result ≡ actions_taken s k }
+#[tactic(auto, unfolding(crate::specs::Settings::actions_taken))]
+fn take_actions(s: Settings, k: u16) -> Result<Settings, Fault>
+    ensures { ended s result ≡ actions_taken s k }
 {
     if s.n == 0 {
-        return stop(s, Fault::NodesMissing);
+        return Err(Fault::NodesMissing);
     }
-    s.actions = k;
-    s
+    Ok(Settings { actions: k, ..s })
 }
 
 // What a user of node i that sends to an address makes of a text that has n nodes so far.
-fn user_stage(n: u8, i: u8, address: u8) -> Stage
+#[tactic(auto, unfolding(crate::specs::Settings::user_stage))]
+fn user_stage(n: u8, i: u8, address: u8) -> Result<(), Fault>
     ensures { result ≡ user_stage n i address }
 {
     if n == 0 {
-        return Stage::Stopped(Fault::NodesMissing);
+        return Err(Fault::NodesMissing);
     }
-    let there = i < n;
-    let sent = record::is_address(n, address);
-    let own = record::is_own(i, address);
-    if !there {
-        return Stage::Stopped(Fault::Refused(WRONG_NODE));
+    if n <= i {
+        return Err(Fault::Refused(Refusal::WrongNode));
     }
-    if !sent {
-        return Stage::Stopped(Fault::Refused(WRONG_ADDRESS));
+    if !record::is_address(n, address) {
+        return Err(Fault::Refused(Refusal::WrongAddress));
     }
-    if own {
-        return Stage::Stopped(Fault::Refused(TO_ITSELF));
+    if record::is_own(i, address) {
+        return Err(Fault::Refused(Refusal::ToItself));
     }
-    Stage::Going
+    Ok(())
 }
 
 // A user's settings in place of those before it. From node 63 on there is no place.
-fn with_user(us: Users, i: u8, u: User) -> Users
-    ensures { result ≡ with_user us i u }
+fn with_user(mut users: Users, i: u8, u: User) -> Users
+    ensures { result ≡ set users i u }
 {
-    let at = i as usize;
-    if PLACES <= at {
-        return us;
+    let i = i as usize;
+    if i < users.len() {
+        users[i] = u;
     }
-    let mut spell = us.spell;
-    let mut address = us.address;
-    let mut fillers = us.fillers;
-    let mut hold = us.hold;
-    let mut period = us.period;
-    spell[at] = u.spell;
-    address[at] = u.address;
-    fillers[at] = u.fillers;
-    hold[at] = u.hold;
-    period[at] = u.period;
-    Users {
-        spell: spell,
-        address: address,
-        fillers: fillers,
-        hold: hold,
-        period: period,
-    }
+    users
 }
 
-fn take_user(mut s: Settings, i: u8, u: User) -> Settings
-    ensures { result ≡ user_taken s i u }
+#[tactic(auto, unfolding(crate::specs::Settings::user_taken))]
+fn take_user(s: Settings, i: u8, u: User) -> Result<Settings, Fault>
+    ensures { ended s result ≡ user_taken s i u }
 {
-    let stage = user_stage(s.n, i, u.address);
-    if let Stage::Stopped(fault) = stage {
-        return stop(s, fault);
-    }
-    let users = s.users;
-    let next = with_user(users, i, u);
-    s.users = next;
-    s
+    user_stage(s.n, i, u.address)?;
+    Ok(Settings {
+        users: with_user(s.users, i, u),
+        ..s
+    })
 }
 
-fn take_line(s: Settings, said: Line) -> Settings
-    ensures { result ≡ line_taken s said }
+#[tactic(auto, unfolding(crate::specs::Settings::line_taken))]
+fn take_line(s: Settings, said: Result<Line, Fault>) -> Result<Settings, Fault>
+    ensures { ended s result ≡ line_taken s said }
 {
-    match said {
-        Line::Blank => s,
+    match said? {
+        Line::Blank => Ok(s),
         Line::Nodes(n) => take_nodes(s, n),
-        Line::Acts(_, _) => stop(s, Fault::UnknownWord),
         Line::Actions(k) => take_actions(s, k),
         Line::User(i, u) => take_user(s, i, u),
-        Line::Finds(_, _) => stop(s, Fault::UnknownWord),
-        Line::Wrong(fault) => stop(s, fault),
+        Line::Acts(_, _) | Line::Finds(_, _) => Err(Fault::UnknownWord),
     }
 }
 
 // Takes a line of the text, without its newline. Settings that have stopped take none.
+#[tactic(auto, unfolding(crate::specs::Settings::feed_of))]
 pub fn feed(s: Settings, line: &[u8]) -> Settings
     ensures { result ≡ feed_of s line.now }
 {
-    let stage = s.stage;
-    if notation::is_stopped(stage) {
+    if s.fault.is_some() {
         return s;
     }
-    let said = notation::parse_line(Text::Settings, line);
-    take_line(on_line(s, notation::count_line(s.line)), said)
+    let next = Settings {
+        line: notation::count_line(s.line),
+        ..s
+    };
+    match take_line(next, notation::parse_line(Text::Settings, line)) {
+        Ok(taken) => taken,
+        Err(fault) => stop(next, fault),
+    }
 }
 
-// The end of the text. A user 0 that still sends to 0 has no line, since such a line is refused.
+// What the end of the text makes of settings. A user 0 that still sends to 0 has no line, since such a line is refused.
+#[tactic(auto, unfolding(crate::specs::Settings::end_of, charts::specs::View::users_of))]
+fn end(s: Settings) -> Result<(), Fault>
+    ensures { result ≡ end_of s }
+{
+    if s.n == 0 {
+        return Err(Fault::NodesMissing);
+    }
+    if record::is_own(0, s.users[0].address) {
+        return Err(Fault::NoUser);
+    }
+    if s.actions == 0 {
+        return Err(Fault::NoAction);
+    }
+    Ok(())
+}
+
+// The end of the text.
+#[tactic(auto, unfolding(crate::specs::Settings::finish_of))]
 pub fn finish(s: Settings) -> Settings
     ensures { result ≡ finish_of s }
 {
-    let stage = s.stage;
-    if notation::is_stopped(stage) {
+    if s.fault.is_some() {
         return s;
     }
-    if s.n == 0 {
-        return stop(s, Fault::NodesMissing);
+    match end(s) {
+        Ok(()) => s,
+        Err(fault) => stop(s, fault),
     }
-    let users = s.users;
-    let address = users.address;
-    if record::is_own(0, address[0]) {
-        return stop(s, Fault::NoUser);
-    }
-    if s.actions == 0 {
-        return stop(s, Fault::NoAction);
-    }
-    s
 }
