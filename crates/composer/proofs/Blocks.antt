@@ -11,14 +11,14 @@ use Rattle.charts.specs.declared.Action.{Action}
 use Rattle.charts.specs.Layout.{records_of}
 use Rattle.runfile.specs.Write.{write_number, block_of}
 use Rattle.files.proofs.Rows.{stored_size, stored_holds}
-use Rattle.notation.specs.declared.Stage.TheVariants.{Going}
+use Rattle.std.specs.Prelude.{None}
 use Rattle.composer.specs.declared.Composer.{Composer}
 use Rattle.words.specs.Words.{limit}
 use Rattle.composer.specs.Composer.{quiet, stored, with_block, records_in, flush_of, held_after, put_of, put_held}
 
 -- a composer at block i, in which the records of l stand
 pub record At (n i : ℕ) (l : List Action) (c : Composer) : Type 0 where
-  pub going : c.stage ≡ Going
+  pub going : c.fault ≡ None
   pub nodes : c.n ≡ n
   pub blocks : c.blocks ≡ i
   pub count : c.count ≡ length l

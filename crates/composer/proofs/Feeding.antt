@@ -7,10 +7,8 @@ use native.Mathlib.Omega.{arith}
 use lib.Dec.{eqb}
 use lib.ListN.{length, replicate, length-append, length-replicate}
 use Rattle.charts.specs.Valid.{is_size}
-use Rattle.charts.specs.Records.{read}
+use Rattle.charts.specs.Records.{Decoded, read}
 use Rattle.charts.specs.declared.Action.{Action}
-use Rattle.charts.specs.declared.Decoded.{Decoded}
-use Rattle.charts.specs.declared.Decoded.TheVariants as D
 use Rattle.charts.specs.Layout.{bound}
 use Rattle.faults.specs.declared.Fault.{Fault}
 use Rattle.faults.specs.declared.Fault.TheVariants as F
@@ -22,8 +20,7 @@ use Rattle.notation.specs.Reading.{counted, line_shown, nodes_stage}
 use Rattle.notation.specs.Meaning.{Said, on, off, read_on, nodes_on, line_on, Accepts}
 use Rattle.notation.proofs.Fitting.{Fitting, line_fitting}
 use Rattle.notation.proofs.Readers.{sized_nodes}
-use Rattle.notation.specs.declared.Stage.{Stage}
-use Rattle.notation.specs.declared.Stage.TheVariants.{Going, Stopped}
+use Rattle.std.specs.Prelude.{Result, Ok, Err, Some}
 use Rattle.composer.specs.declared.Composer.{Composer}
 use Rattle.composer.specs.Composer.{stopped, on_line, for_nodes, to_put, nodes_as, read_taken, nodes_taken, action_taken, line_taken, feed_of, put_of, finish_of}
 use Rattle.composer.specs.Composed.{put_times, put_bytes, settled, ends_from}
@@ -40,7 +37,7 @@ pub record After (i n : ℕ) (l : List Action) (bytes : List ℕ) (c : Composer)
 -- a composer after a line that the meaning takes, or that has a fault
 abbrev pub Goes : ℕ → List ℕ → Composer → Said → Type 0
 Goes i bytes c (on n l) = length l ≤ 31 * bound 4 → After i n l (bytes ++ put_bytes c.left c) (settled c)
-Goes i bytes c (off f) = (c.stage ≡ Stopped f) × (c.line ≡ line_shown i)
+Goes i bytes c (off f) = (c.fault ≡ Some f) × (c.line ≡ line_shown i)
 
 none_put : {i n : ℕ} {l : List Action} {bytes : List ℕ} {c : Composer} (k : ℕ) → k ≡ 0 → After i n l bytes c → After i n l (bytes ++ put_bytes k c) (put_times k c)
 none_put {bytes = bytes} zero e a = rw (append-nil bytes) a
@@ -104,15 +101,15 @@ module _ (i n : ℕ) (l : List Action) (bytes : List ℕ) (c : Composer) (a : Af
       }) (omega arith) in
       record { stands = w.stands; idle = w.left; line = w.line; sized = a.sized; none = λ e. absurd (let z : true ≡ false = sym e ∙ some in let y : ◌≡◌ {A = ℕ} 0 1 = cc in omega arith) }
 
-  nodes_line_goes : (m : ℕ) → Goes (suc i) bytes (line_taken next (L.Nodes m)) (line_on n l (L.Nodes m))
+  nodes_line_goes : (m : ℕ) → Goes (suc i) bytes (line_taken next (Ok (L.Nodes m))) (line_on n l (Ok (L.Nodes m)))
   unfolding line_taken nodes_taken
   nodes_line_goes m = rw (ap (λ (x : ℕ). nodes_stage x m) a.stands.at.nodes) (go (nodes_stage n m) (λ e. nodes_go m (sized_nodes n m e).0 (sized_nodes n m e).1))
     where
-      go : (s : Stage) → (s ≡ Going → Goes (suc i) bytes (for_nodes next m) (on m l)) → Goes (suc i) bytes (nodes_as next m s) (nodes_on m l s)
-      go Going f = f refl
-      go (Stopped f) g = (refl, next_line)
+      go : (s : Result Unit Fault) → (s ≡ Ok tt → Goes (suc i) bytes (for_nodes next m) (on m l)) → Goes (suc i) bytes (nodes_as next m s) (nodes_on m l s)
+      go (Ok u) f = f refl
+      go (Err f) g = (refl, next_line)
 
-  action_line_goes : (x : Action) (k : ℕ) → Fitting (L.Acts x k) → Goes (suc i) bytes (line_taken next (L.Acts x k)) (line_on n l (L.Acts x k))
+  action_line_goes : (x : Action) (k : ℕ) → Fitting (Ok (L.Acts x k)) → Goes (suc i) bytes (line_taken next (Ok (L.Acts x k))) (line_on n l (Ok (L.Acts x k)))
   unfolding line_taken action_taken
   action_line_goes x k fits = rw (ap (λ (m : ℕ). eqb m 0) a.stands.at.nodes, ap (λ (m : ℕ). read m x) a.stands.at.nodes) (go (eqb n 0) (read n x) refl refl)
     where
@@ -121,18 +118,18 @@ module _ (i n : ℕ) (l : List Action) (bytes : List ℕ) (c : Composer) (a : Af
           (cond b (stopped next F.NodesMissing) (read_taken next x k d))
           (cond b (off F.NodesMissing) (read_on n l x k d))
       go true d p q = (refl, next_line)
-      go false (D.Refused j) p q = (refl, next_line)
-      go false (D.Accepted v) p q = action_goes x k p (record { fits = fits; move = v; reads = q })
+      go false (Err j) p q = (refl, next_line)
+      go false (Ok v) p q = action_goes x k p (record { fits = fits; move = v; reads = q })
 
-  line_goes : (x : Line) → Fitting x → Goes (suc i) bytes (line_taken next x) (line_on n l x)
+  line_goes : (x : Result Line Fault) → Fitting x → Goes (suc i) bytes (line_taken next x) (line_on n l x)
   unfolding line_taken
-  line_goes L.Blank fits = blank_goes
-  line_goes (L.Nodes m) fits = nodes_line_goes m
-  line_goes (L.Acts x k) fits = action_line_goes x k fits
-  line_goes (L.Actions k) fits = (refl, next_line)
-  line_goes (L.User k u) fits = (refl, next_line)
-  line_goes (L.Finds q d) fits = (refl, next_line)
-  line_goes (L.Wrong f) fits = (refl, next_line)
+  line_goes (Ok L.Blank) fits = blank_goes
+  line_goes (Ok (L.Nodes m)) fits = nodes_line_goes m
+  line_goes (Ok (L.Acts x k)) fits = action_line_goes x k fits
+  line_goes (Ok (L.Actions k)) fits = (refl, next_line)
+  line_goes (Ok (L.User k u)) fits = (refl, next_line)
+  line_goes (Ok (L.Finds q d)) fits = (refl, next_line)
+  line_goes (Err f) fits = (refl, next_line)
 
   fed : (t : List ℕ) → feed_of c t ≡ line_taken next (line_of Run t)
   unfolding feed_of
@@ -142,7 +139,7 @@ module _ (i n : ℕ) (l : List Action) (bytes : List ℕ) (c : Composer) (a : Af
   feed_goes t = rw (fed t) (line_goes (line_of Run t) (line_fitting Run t))
 
 -- a composer that has stopped takes no more
-module _ (c : Composer) (f : Fault) (h : c.stage ≡ Stopped f) where
+module _ (c : Composer) (f : Fault) (h : c.fault ≡ Some f) where
   feed_still : (t : List ℕ) → feed_of c t ≡ c
   unfolding feed_of
   feed_still t = rw h

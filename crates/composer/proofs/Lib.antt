@@ -1,4 +1,3 @@
-pub mod ComposerLaws
 pub mod Blocks
 pub mod Standing
 pub mod Feeding

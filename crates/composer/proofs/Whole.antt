@@ -8,10 +8,8 @@ use borrow.Author.Tests.{lt-ltb, ne_eqb, eqb-true, eqb-false}
 use lib.Dec.{eqb, ltb}
 use lib.ListN.{length, replicate, length-append, length-replicate}
 use lib.Seq.{take_all}
-use Rattle.charts.specs.Records.{read}
+use Rattle.charts.specs.Records.{Decoded, read}
 use Rattle.charts.specs.declared.Action.{Action}
-use Rattle.charts.specs.declared.Decoded.{Decoded}
-use Rattle.charts.specs.declared.Decoded.TheVariants as D
 use Rattle.charts.specs.Layout.{bound, records_of}
 use Rattle.runfile.specs.Write.{write_number, block_of}
 use Rattle.files.specs.File.{blocks_for, file_from, file_of, Taken}
@@ -23,8 +21,7 @@ use Rattle.notation.specs.declared.Line.TheVariants as L
 use Rattle.words.specs.Words.{limit}
 use Rattle.notation.specs.Grammar.{line_of}
 use Rattle.notation.specs.Meaning.{Meaning, run, wrong, Said, on, off, read_on, nodes_on, line_on, end_on, after_line, meaning_from, lines_of, unmarked, meaning_of}
-use Rattle.notation.specs.declared.Stage.{Stage}
-use Rattle.notation.specs.declared.Stage.TheVariants.{Going, Stopped}
+use Rattle.std.specs.Prelude.{Some, None, Result, Ok, Err}
 use Rattle.composer.specs.declared.Composer.{Composer}
 use Rattle.composer.specs.declared.Wrote.{Wrote}
 use Rattle.composer.specs.Composer.{stopped, with_block, records_in, used_by, quiet, flush_of, held_after, feed_of, finish_of, finish_held}
@@ -37,8 +34,8 @@ use Rattle.composer.proofs.Feeding.{After, Goes, feed_goes, still}
 
 -- what a composer makes of the rest of a text with that meaning, `bytes` being written
 abbrev Outcome : List ℕ → List (List ℕ) → Composer → Meaning → Type 0
-Outcome bytes ts c (run n l) = Taken n l × (bytes ++ composed_from ts c ≡ file_of n l) × ((ends_from ts c).stage ≡ Going)
-Outcome bytes ts c (wrong i f) = ((ends_from ts c).stage ≡ Stopped f) × ((ends_from ts c).line ≡ line_shown i)
+Outcome bytes ts c (run n l) = Taken n l × (bytes ++ composed_from ts c ≡ file_of n l) × ((ends_from ts c).fault ≡ None)
+Outcome bytes ts c (wrong i f) = ((ends_from ts c).fault ≡ Some f) × ((ends_from ts c).line ≡ line_shown i)
 
 one_block : (n i : ℕ) (l : List Action) → 0 < length l → length l ≤ 31 → file_from (blocks_for (length l)) i n l ≡ block_of i n l
 one_block n i l some few =
@@ -93,8 +90,8 @@ module _ (n i : ℕ) (l : List Action) (c : Composer) (at : At n i l c) (idle : 
       unfolding held_after
       held_under = rw (finish_under, all_records, at.blocks, at.nodes)
 
-stage_of : {w : Wrote} {c : Composer} {b : Bool} → w ≡ record { composer = c; written = b } → w.composer.stage ≡ c.stage
-stage_of e = ap (λ (x : Wrote). x.composer.stage) e
+fault_of : {w : Wrote} {c : Composer} {b : Bool} → w ≡ record { composer = c; written = b } → w.composer.fault ≡ c.fault
+fault_of e = ap (λ (x : Wrote). x.composer.fault) e
 
 line_is : {w : Wrote} {c : Composer} {b : Bool} → w ≡ record { composer = c; written = b } → w.composer.line ≡ c.line
 line_is e = ap (λ (x : Wrote). x.composer.line) e
@@ -104,14 +101,14 @@ module _ (i n : ℕ) (l : List Action) (bytes : List ℕ) (c : Composer) (a : Af
   end_missing h =
       let s = a.stands in
       let e = finish_missing n s.block s.under c s.at a.idle h in
-      (stage_of e, line_is e ∙ a.line)
+      (fault_of e, line_is e ∙ a.line)
 
   end_empty : eqb n 0 ≡ false → length l ≡ 0 → Outcome bytes [] c (wrong i F.NoAction)
   end_empty h none =
       let s = a.stands in
       let sizes = parts_length a.stands in
       let e = finish_empty n s.block s.under c s.at a.idle h (omega arith) (omega arith) in
-      (stage_of e, line_is e ∙ a.line)
+      (fault_of e, line_is e ∙ a.line)
 
   end_full : eqb n 0 ≡ false → 1 ≤ length l → length a.stands.under ≡ 0 → Outcome bytes [] c (run n l)
   end_full h some none =
@@ -122,7 +119,7 @@ module _ (i n : ℕ) (l : List Action) (bytes : List ℕ) (c : Composer) (a : Af
       let file : file_of n l ≡ bytes ++ [] = rw blocks at (file_stands a.stands) in (
         takes n l (a.sized h) s.accepted some few,
         ap (λ (x : List ℕ). bytes ++ x) (held_full n s.block s.under c s.at a.idle h none later) ∙ sym file,
-        stage_of (finish_full n s.block s.under c s.at a.idle h none later) ∙ s.at.going,
+        fault_of (finish_full n s.block s.under c s.at a.idle h none later) ∙ s.at.going,
       )
 
   end_under : eqb n 0 ≡ false → 0 < length a.stands.under → Outcome bytes [] c (run n l)
@@ -135,7 +132,7 @@ module _ (i n : ℕ) (l : List Action) (bytes : List ℕ) (c : Composer) (a : Af
       let file : file_of n l ≡ bytes ++ block_of s.block n s.under = rw (one_block n s.block s.under under (omega arith)) at (file_stands a.stands) in (
         takes n l (a.sized h) s.accepted (omega arith) few,
         ap (λ (x : List ℕ). bytes ++ x) (held_under n s.block s.under c s.at a.idle h under small fits taken) ∙ sym file,
-        stage_of (finish_under n s.block s.under c s.at a.idle h under small fits taken) ∙ s.at.going,
+        fault_of (finish_under n s.block s.under c s.at a.idle h under small fits taken) ∙ s.at.going,
       )
 
   end_run : eqb n 0 ≡ false → 1 ≤ length l → Outcome bytes [] c (run n l)
@@ -158,23 +155,23 @@ abbrev Grows : ℕ → Said → Type 0
 Grows size (on n l) = length l ≡ size
 Grows size (off f) = Unit
 
-grows : (n : ℕ) (l : List Action) (x : Line) → Grows (length l + times_said x) (line_on n l x)
-grows n l L.Blank = omega arith
-grows n l (L.Nodes m) = go (nodes_stage n m)
+grows : (n : ℕ) (l : List Action) (x : Result Line Fault) → Grows (length l + times_said x) (line_on n l x)
+grows n l (Ok L.Blank) = omega arith
+grows n l (Ok (L.Nodes m)) = go (nodes_stage n m)
   where
-    go : (s : Stage) → Grows (length l + 0) (nodes_on m l s)
-    go Going = omega arith
-    go (Stopped f) = tt
-grows n l (L.Acts a k) = go (eqb n 0) (read n a)
+    go : (s : Result Unit Fault) → Grows (length l + 0) (nodes_on m l s)
+    go (Ok u) = omega arith
+    go (Err f) = tt
+grows n l (Ok (L.Acts a k)) = go (eqb n 0) (read n a)
   where
     go : (b : Bool) (d : Decoded) → Grows (length l + k) (cond b (off F.NodesMissing) (read_on n l a k d))
     go true d = tt
-    go false (D.Refused j) = tt
-    go false (D.Accepted v) = let times = length-replicate k a in length-append l (replicate k a) ∙ omega arith
-grows n l (L.Actions k) = tt
-grows n l (L.User i u) = tt
-grows n l (L.Finds q d) = tt
-grows n l (L.Wrong f) = tt
+    go false (Err j) = tt
+    go false (Ok v) = let times = length-replicate k a in length-append l (replicate k a) ∙ omega arith
+grows n l (Ok (L.Actions k)) = tt
+grows n l (Ok (L.User i u)) = tt
+grows n l (Ok (L.Finds q d)) = tt
+grows n l (Err f) = tt
 
 abbrev Sums : ℕ → Meaning → Type 0
 Sums size (run n l) = length l ≡ size
@@ -216,7 +213,7 @@ one_line t ts later i n l bytes c a few = go (line_on n l (line_of Run t)) (grow
         (later (suc i) m k (bytes ++ put_bytes (feed_of c t).left (feed_of c t)) (settled (feed_of c t)) (w (omega arith)) (omega arith))
     go (off f) g w =
         let e = still (feed_of c t) f w.0 (feed_of c t).left ts in
-        (ap (λ (x : Composer). x.stage) e ∙ w.0, ap (λ (x : Composer). x.line) e ∙ w.1)
+        (ap (λ (x : Composer). x.fault) e ∙ w.0, ap (λ (x : Composer). x.line) e ∙ w.1)
 
 outcome : (ts : List (List ℕ)) → Outcomes ts
 outcome [] i n l bytes c a few = end i n l bytes c a (omega arith)
@@ -251,7 +248,7 @@ count_of text = sums (lines_of (unmarked text)) 0 0 []
 
 -- a text that means n and l is composed to the file of l for n nodes: the writer takes l, the bytes are that file's, and the composer has no fault
 pub composes : (text : List ℕ) (n : ℕ) (l : List Action) → meaning_of text ≡ run n l → length l ≤ 31 * bound 4
-    → Taken n l × (composed text ≡ file_of n l) × ((ends text).stage ≡ Going)
+    → Taken n l × (composed text ≡ file_of n l) × ((ends text).fault ≡ None)
 unfolding composed ends
 composes text n l h few =
     let size = rw h at (count_of text) in
@@ -259,7 +256,7 @@ composes text n l h few =
 
 -- a text that is wrong leaves the composer stopped with that fault on that line
 pub stops : (text : List ℕ) (i : ℕ) (f : Fault) → meaning_of text ≡ wrong i f → actions_in (lines_of (unmarked text)) ≤ 31 * bound 4 → i < 2 ^ 64
-    → ((ends text).stage ≡ Stopped f) × ((ends text).line ≡ i)
+    → ((ends text).fault ≡ Some f) × ((ends text).line ≡ i)
 unfolding ends
 stops text i f h few small =
     let o = rw h at (of_text text few) in

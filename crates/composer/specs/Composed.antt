@@ -1,9 +1,10 @@
 -- What `compose` writes and how it ends: each line fed, its action put as often as the line says, and the end of the text.
-use Rattle.std.specs.Prelude.{List, [], ◌∷◌, ◌++◌, ℕ, zero, suc, ◌+◌, replicate}
+use Rattle.std.specs.Prelude.{List, [], ◌∷◌, ◌++◌, ℕ, zero, suc, ◌+◌, replicate, Result, Ok, Err}
 use Rattle.charts.specs.Records.{blank}
+use Rattle.faults.specs.declared.Fault.{Fault}
 use Rattle.notation.specs.declared.Text.TheVariants.{Run}
 use Rattle.notation.specs.declared.Line.{Line}
-use Rattle.notation.specs.declared.Line.TheVariants.{Blank, Nodes, Acts, Actions, Finds, Wrong}
+use Rattle.notation.specs.declared.Line.TheVariants.{Blank, Nodes, Acts, Actions, Finds}
 use Rattle.notation.specs.declared.Line.TheVariants as L
 use Rattle.notation.specs.Grammar.{line_of}
 use Rattle.notation.specs.Meaning.{lines_of, unmarked}
@@ -41,14 +42,14 @@ unfoldable pub ends : List ℕ → Composer
 ends text = ends_from (lines_of (unmarked text)) begin
 
 -- how many actions lines say, "`pass * 6`" being six
-abbrev pub times_said : Line → ℕ
-times_said Blank = 0
-times_said (Nodes n) = 0
-times_said (Acts a k) = k
-times_said (Actions k) = 0
-times_said (L.User i u) = 0
-times_said (Finds q d) = 0
-times_said (Wrong f) = 0
+abbrev pub times_said : Result Line Fault → ℕ
+times_said (Ok Blank) = 0
+times_said (Ok (Nodes n)) = 0
+times_said (Ok (Acts a k)) = k
+times_said (Ok (Actions k)) = 0
+times_said (Ok (L.User i u)) = 0
+times_said (Ok (Finds q d)) = 0
+times_said (Err f) = 0
 
 abbrev pub actions_in : List (List ℕ) → ℕ
 actions_in [] = 0

@@ -1,10 +1,10 @@
 -- The composer: what a line, an action put into the block under way, and the text's end make of it.
-use Rattle.std.specs.Prelude.{true, false, cond, not, List, ℕ, ◌+◌, ◌*◌, ◌-◌, eqb, ltb, take}
+use Rattle.std.specs.Prelude.{true, false, cond, not, List, ℕ, ◌+◌, ◌*◌, ◌-◌, eqb, ltb, take, Some, None, is_some, Result, Ok, Err}
 use Rattle.charts.specs.Numbers as N
-use Rattle.charts.specs.Records.{read}
+use Rattle.charts.specs.Records.{Decoded, read}
 use Rattle.charts.specs.declared.Action.{Action}
-use Rattle.charts.specs.declared.Decoded.{Decoded}
-use Rattle.charts.specs.declared.Decoded.TheVariants as D
+use Rattle.charts.specs.declared.Refusal.{Refusal}
+use Rattle.charts.specs.declared.Refusal.TheVariants as R
 use Rattle.charts.specs.Layout.{bytes_of}
 use Rattle.record.specs.Bytes.{put_at}
 use Rattle.runfile.specs.Write.{write_number, block_with}
@@ -12,20 +12,18 @@ use Rattle.faults.specs.declared.Fault.{Fault}
 use Rattle.faults.specs.declared.Fault.TheVariants.{UnknownWord, NodesMissing, NoAction, TooMany, Refused}
 use Rattle.notation.specs.declared.Text.TheVariants.{Run}
 use Rattle.notation.specs.declared.Line.{Line}
-use Rattle.notation.specs.declared.Line.TheVariants.{Blank, Nodes, Acts, Actions, Finds, Wrong}
+use Rattle.notation.specs.declared.Line.TheVariants.{Blank, Nodes, Acts, Actions, Finds}
 use Rattle.notation.specs.declared.Line.TheVariants as L
-use Rattle.notation.specs.declared.Stage.{Stage}
-use Rattle.notation.specs.declared.Stage.TheVariants.{Going, Stopped}
 use Rattle.composer.specs.declared.Composer.{Composer}
 use Rattle.composer.specs.declared.Wrote.{Wrote}
 use Rattle.words.specs.Words.{limit}
 use Rattle.notation.specs.Grammar.{line_of}
-use Rattle.notation.specs.Reading.{is_stopped, counted, nodes_stage}
+use Rattle.notation.specs.Reading.{counted, nodes_stage}
 
 -- the composer stopped by a fault; on the next line; with so many nodes; with an action to put so often
 abbrev pub stopped : Composer → Fault → Composer
 stopped c f = record {
-  stage = Stopped f;
+  fault = Some f;
   line = c.line;
   n = c.n;
   blocks = c.blocks;
@@ -37,7 +35,7 @@ stopped c f = record {
 
 abbrev pub on_line : Composer → ℕ → Composer
 on_line c line = record {
-  stage = c.stage;
+  fault = c.fault;
   line = line;
   n = c.n;
   blocks = c.blocks;
@@ -49,7 +47,7 @@ on_line c line = record {
 
 abbrev pub for_nodes : Composer → ℕ → Composer
 for_nodes c n = record {
-  stage = c.stage;
+  fault = c.fault;
   line = c.line;
   n = n;
   blocks = c.blocks;
@@ -61,7 +59,7 @@ for_nodes c n = record {
 
 abbrev pub to_put : Composer → Action → ℕ → Composer
 to_put c a k = record {
-  stage = c.stage;
+  fault = c.fault;
   line = c.line;
   n = c.n;
   blocks = c.blocks;
@@ -73,7 +71,7 @@ to_put c a k = record {
 
 abbrev pub with_block : Composer → ℕ → ℕ → List ℕ → ℕ → Composer
 with_block c blocks count records left = record {
-  stage = c.stage;
+  fault = c.fault;
   line = c.line;
   n = c.n;
   blocks = blocks;
@@ -84,35 +82,35 @@ with_block c blocks count records left = record {
 }
 
 -- "`nodes 3` first": once, and 1 refuses n
-abbrev pub nodes_as : Composer → ℕ → Stage → Composer
-nodes_as c n Going = for_nodes c n
-nodes_as c n (Stopped f) = stopped c f
+abbrev pub nodes_as : Composer → ℕ → Result Unit Fault → Composer
+nodes_as c n (Ok u) = for_nodes c n
+nodes_as c n (Err f) = stopped c f
 
 unfoldable pub nodes_taken : Composer → ℕ → Composer
 nodes_taken c n = nodes_as c n (nodes_stage c.n n)
 
 -- "the paper's number 1 to 6 for what the writer would refuse"
 abbrev pub read_taken : Composer → Action → ℕ → Decoded → Composer
-read_taken c a k (D.Refused j) = stopped c (Refused j)
-read_taken c a k (D.Accepted m) = to_put c a k
+read_taken c a k (Err j) = stopped c (Refused j)
+read_taken c a k (Ok m) = to_put c a k
 
 unfoldable pub action_taken : Composer → Action → ℕ → Composer
 action_taken c a k = cond (eqb c.n 0) (stopped c NodesMissing) (read_taken c a k (read c.n a))
 
 -- a run has no lines of settings and no `find`
-unfoldable pub line_taken : Composer → Line → Composer
-line_taken c Blank = c
-line_taken c (Nodes n) = nodes_taken c n
-line_taken c (Acts a k) = action_taken c a k
-line_taken c (Actions k) = stopped c UnknownWord
-line_taken c (L.User i u) = stopped c UnknownWord
-line_taken c (Finds q d) = stopped c UnknownWord
-line_taken c (Wrong f) = stopped c f
+unfoldable pub line_taken : Composer → Result Line Fault → Composer
+line_taken c (Ok Blank) = c
+line_taken c (Ok (Nodes n)) = nodes_taken c n
+line_taken c (Ok (Acts a k)) = action_taken c a k
+line_taken c (Ok (Actions k)) = stopped c UnknownWord
+line_taken c (Ok (L.User i u)) = stopped c UnknownWord
+line_taken c (Ok (Finds q d)) = stopped c UnknownWord
+line_taken c (Err f) = stopped c f
 
 -- a line fed to the composer. One that has stopped, or has still an action to put, takes none.
 unfoldable pub feed_of : Composer → List ℕ → Composer
 feed_of c line =
-    cond (is_stopped c.stage) c
+    cond (is_some c.fault) c
     (cond (not (eqb c.left 0)) c
     (line_taken (on_line c (counted c.line)) (line_of Run line)))
 
@@ -120,11 +118,30 @@ feed_of c line =
 abbrev pub quiet : Composer → Wrote
 quiet c = record { composer = c; written = false }
 
+-- the refusal that has a number
+abbrev pub refusal_at : ℕ → Refusal
+refusal_at k =
+    cond (eqb k N.wrong_kind) R.WrongKind
+    (cond (eqb k N.stray_field) R.StrayField
+    (cond (eqb k N.wrong_node) R.WrongNode
+    (cond (eqb k N.wrong_address) R.WrongAddress
+    (cond (eqb k N.wrong_answer) R.WrongAnswer
+    (cond (eqb k N.not_open) R.NotOpen
+    (cond (eqb k N.wrong_length) R.WrongLength
+    (cond (eqb k N.wrong_check) R.WrongCheck
+    (cond (eqb k N.wrong_order) R.WrongOrder
+    (cond (eqb k N.wrong_count) R.WrongCount
+    (cond (eqb k N.not_valid) R.NotValid
+    (cond (eqb k N.wrong_label) R.WrongLabel
+    (cond (eqb k N.too_deep) R.TooDeep
+    (cond (eqb k N.to_itself) R.ToItself
+    R.WrongSize)))))))))))))
+
 -- the block under way written, its records being the first `size` bytes: "none follows 4,294,967,295"
 abbrev pub written_as : Composer → ℕ → Wrote
 written_as c k =
     cond (eqb k N.accepted) (record { composer = with_block c (c.blocks + 1) 0 c.records c.left; written = true })
-    (quiet (stopped c (Refused k)))
+    (quiet (stopped c (Refused (refusal_at k))))
 
 abbrev pub records_in : Composer → ℕ → List ℕ
 records_in c size = take size c.records
@@ -145,7 +162,7 @@ stored c count = with_block c c.blocks count (put_at c.records (16 * c.count) (b
 -- "All but the last block are full": the 31st record fills a block
 unfoldable pub put_of : Composer → Wrote
 put_of c =
-    cond (is_stopped c.stage) (quiet c)
+    cond (is_some c.fault) (quiet c)
     (cond (eqb c.left 0) (quiet c)
     (cond (ltb c.count 30) (quiet (stored c (c.count + 1)))
     (flush_of (stored c c.count) 496)))
@@ -159,7 +176,7 @@ used_by count = cond (ltb count 31) (16 * count) 496
 
 unfoldable pub finish_of : Composer → Wrote
 finish_of c =
-    cond (is_stopped c.stage) (quiet c)
+    cond (is_some c.fault) (quiet c)
     (cond (not (eqb c.left 0)) (quiet c)
     (cond (eqb c.n 0) (quiet (stopped c NodesMissing))
     (cond (not (eqb c.count 0)) (flush_of c (used_by c.count))
@@ -170,4 +187,4 @@ finish_held c out = held_after c (used_by c.count) (finish_of c) out
 
 -- the composer before a text
 abbrev pub start_of : List ℕ → Action → Composer
-start_of records a = record { stage = Going; line = 0; n = 0; blocks = 0; count = 0; records = records; action = a; left = 0 }
+start_of records a = record { fault = None; line = 0; n = 0; blocks = 0; count = 0; records = records; action = a; left = 0 }

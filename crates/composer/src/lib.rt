@@ -1,22 +1,22 @@
 // Composes a run file from the lines of a text, one block at a time.
 #![tactic(auto)]
 
-ghost use Rattle.std.specs.Prelude.{◌≡◌, ◌≤◌, replicate};
+ghost use Rattle.std.specs.Prelude.{◌≡◌, ◌≤◌, Result, replicate};
 ghost use Rattle.charts.specs.Records.{blank};
-ghost use Rattle.composer.specs.Composer.{stopped, on_line, to_put, nodes_taken, action_taken, line_taken, feed_of};
-ghost use Rattle.composer.specs.Composer.{with_block, flush_of, held_after, put_of, put_held, used_by, finish_of, finish_held, start_of};
+ghost use Rattle.composer.specs.Composer.{stopped, nodes_taken, action_taken, line_taken, feed_of, quiet};
+ghost use Rattle.composer.specs.Composer.{flush_of, held_after, put_of, put_held, used_by, finish_of, finish_held, start_of};
 
-use charts::{Action, Decoded};
+use charts::Action;
 use faults::Fault;
-use notation::{Line, Stage, Text};
+use notation::{Line, Text};
 
 const BLOCKS: u64 = 4294967296;
 
-// The composer between two calls: the line last fed, n (0 before the `nodes` line), how many blocks are written, the records of the block
-// under way, and the action under way with how often it is still to be put.
+// The composer between two calls: the fault that has stopped it, the line last fed, n (0 before the `nodes` line), how many blocks are written, the records of
+// the block under way, and the action under way with how often it is still to be put.
 #[derive(Clone, Copy)]
 pub struct Composer {
-    pub stage: Stage,
+    pub fault: Option<Fault>,
     pub line: u64,
     pub n: u8,
     pub blocks: u64,
@@ -34,11 +34,12 @@ pub struct Wrote {
 }
 
 // The composer before a text.
+#[tactic(auto, unfolding(charts::specs::Layout::action_at))]
 pub fn start() -> Composer
     ensures { result ≡ start_of (replicate 496 0) blank }
 {
     Composer {
-        stage: Stage::Going,
+        fault: None,
         line: 0,
         n: 0,
         blocks: 0,
@@ -52,218 +53,149 @@ pub fn start() -> Composer
 fn stop(c: Composer, fault: Fault) -> Composer
     ensures { result ≡ stopped c fault }
 {
-    let records = c.records;
-    let action = c.action;
     Composer {
-        stage: Stage::Stopped(fault),
-        line: c.line,
-        n: c.n,
-        blocks: c.blocks,
-        count: c.count,
-        records: records,
-        action: action,
-        left: c.left,
+        fault: Some(fault),
+        ..c
     }
 }
 
-fn with_block(c: Composer, blocks: u64, count: u8, records: [u8; 496], left: u32) -> Composer
-    ensures { result ≡ with_block c blocks count records left }
+fn quiet(c: Composer) -> Wrote
+    ensures { result ≡ quiet c }
 {
-    let stage = c.stage;
-    let action = c.action;
-    Composer {
-        stage: stage,
-        line: c.line,
-        n: c.n,
-        blocks: blocks,
-        count: count,
-        records: records,
-        action: action,
-        left: left,
+    Wrote {
+        composer: c,
+        written: false,
     }
 }
 
-fn on_line(mut c: Composer, line: u64) -> Composer
-    ensures { result ≡ on_line c line }
-{
-    c.line = line;
-    c
-}
-
-fn take_nodes(mut c: Composer, n: u8) -> Composer
+#[tactic(auto, unfolding(crate::specs::Composer::nodes_taken))]
+fn take_nodes(c: Composer, n: u8) -> Composer
     ensures { result ≡ nodes_taken c n }
 {
-    let stage = notation::nodes_stage(c.n, n);
-    if let Stage::Stopped(fault) = stage {
-        return stop(c, fault);
+    match notation::nodes_stage(c.n, n) {
+        Ok(()) => Composer { n, ..c },
+        Err(fault) => stop(c, fault),
     }
-    c.n = n;
-    c
 }
 
+#[tactic(auto, unfolding(crate::specs::Composer::action_taken))]
 fn take_action(c: Composer, a: Action, k: u32) -> Composer
     ensures { result ≡ action_taken c a k }
 {
     if c.n == 0 {
         return stop(c, Fault::NodesMissing);
     }
-    let d = record::decode(c.n, a);
-    match d {
-        Decoded::Refused(j) => stop(c, Fault::Refused(j)),
-        Decoded::Accepted(_) => to_put(c, a, k),
+    match record::decode(c.n, a) {
+        Ok(_) => Composer {
+            action: a,
+            left: k,
+            ..c
+        },
+        Err(refusal) => stop(c, Fault::Refused(refusal)),
     }
 }
 
-fn to_put(c: Composer, a: Action, k: u32) -> Composer
-    ensures { result ≡ to_put c a k }
-{
-    let stage = c.stage;
-    let records = c.records;
-    Composer {
-        stage: stage,
-        line: c.line,
-        n: c.n,
-        blocks: c.blocks,
-        count: c.count,
-        records: records,
-        action: a,
-        left: k,
-    }
-}
-
-fn take_line(c: Composer, said: Line) -> Composer
+#[tactic(auto, unfolding(crate::specs::Composer::line_taken))]
+fn take_line(c: Composer, said: Result<Line, Fault>) -> Composer
     ensures { result ≡ line_taken c said }
 {
     match said {
-        Line::Blank => c,
-        Line::Nodes(n) => take_nodes(c, n),
-        Line::Acts(a, k) => take_action(c, a, k),
-        Line::Actions(_) => stop(c, Fault::UnknownWord),
-        Line::User(_, _) => stop(c, Fault::UnknownWord),
-        Line::Finds(_, _) => stop(c, Fault::UnknownWord),
-        Line::Wrong(fault) => stop(c, fault),
+        Ok(Line::Blank) => c,
+        Ok(Line::Nodes(n)) => take_nodes(c, n),
+        Ok(Line::Acts(a, k)) => take_action(c, a, k),
+        Ok(_) => stop(c, Fault::UnknownWord),
+        Err(fault) => stop(c, fault),
     }
 }
 
 // Takes a line of the text, without its newline. A composer that has stopped, or has still an action to put, takes none.
+#[tactic(auto, unfolding(crate::specs::Composer::feed_of))]
 pub fn feed(c: Composer, line: &[u8]) -> Composer
     ensures { result ≡ feed_of c line.now }
 {
-    let stage = c.stage;
-    if notation::is_stopped(stage) {
-        return c;
-    }
-    if c.left != 0 {
+    if c.fault.is_some() || c.left != 0 {
         return c;
     }
     let said = notation::parse_line(Text::Run, line);
-    take_line(on_line(c, notation::count_line(c.line)), said)
+    let next = Composer {
+        line: notation::count_line(c.line),
+        ..c
+    };
+    take_line(next, said)
 }
 
 // Writes the block under way, its records being the first `size` bytes.
+#[tactic(auto, unfolding(crate::specs::Composer::flush_of, crate::specs::Composer::held_after))]
 fn flush(c: Composer, size: usize, out: &mut [u8; 512]) -> Wrote
     requires { size ≤ 496 }
     ensures value { result ≡ flush_of c size }
     ensures out_after { out.new ≡ held_after c size result out.old }
 {
-    let blocks = c.blocks;
-    if BLOCKS <= blocks {
-        return Wrote {
-            composer: stop(c, Fault::TooMany),
-            written: false,
-        };
+    if BLOCKS <= c.blocks {
+        return quiet(stop(c, Fault::TooMany));
     }
-    let records = c.records;
-    let traced = runfile::write_block(out, blocks as u32, c.n, &records[..size]);
-    if traced.refusal != 0 {
-        return Wrote {
-            composer: stop(c, Fault::Refused(traced.refusal)),
-            written: false,
-        };
-    }
-    Wrote {
-        composer: with_block(c, blocks + 1, 0, records, c.left),
-        written: true,
+    match runfile::write_block(out, c.blocks as u32, c.n, &c.records[..size]) {
+        Ok(_) => Wrote {
+            composer: Composer {
+                blocks: c.blocks + 1,
+                count: 0,
+                ..c
+            },
+            written: true,
+        },
+        Err(refusal) => quiet(stop(c, Fault::Refused(refusal))),
     }
 }
 
 // Puts the action under way once into the block under way. The 31st record fills the block, which is then written.
+#[tactic(auto, unfolding(crate::specs::Composer::put_of, crate::specs::Composer::held_after))]
 pub fn put(c: Composer, out: &mut [u8; 512]) -> Wrote
     ensures value { result ≡ put_of c }
     ensures out_after { out.new ≡ put_held c out.old }
 {
-    let stage = c.stage;
-    if notation::is_stopped(stage) {
-        return Wrote {
-            composer: c,
-            written: false,
-        };
+    if c.fault.is_some() || c.left == 0 {
+        return quiet(c);
     }
-    let left = c.left;
-    if left == 0 {
-        return Wrote {
-            composer: c,
-            written: false,
-        };
-    }
-    let count = c.count;
-    let action = c.action;
     let mut records = c.records;
-    record::write_action(&mut records, 16 * (count as usize), action);
-    if count < 30 {
-        return Wrote {
-            composer: with_block(c, c.blocks, count + 1, records, left - 1),
-            written: false,
-        };
+    record::write_action(&mut records, 16 * c.count as usize, c.action);
+    let stored = Composer {
+        records,
+        left: c.left - 1,
+        ..c
+    };
+    if c.count < 30 {
+        return quiet(Composer {
+            count: c.count + 1,
+            ..stored
+        });
     }
-    flush(with_block(c, c.blocks, count, records, left - 1), 496, out)
+    flush(stored, 496, out)
 }
 
 fn used_by(count: u8) -> usize
     ensures value { result ≡ used_by count }
     ensures upper_bound { result ≤ 496 }
 {
-    if count < 31 {
-        return 16 * (count as usize);
-    }
-    496
+    if count < 31 { 16 * count as usize } else { 496 }
 }
 
 // The end of the text: the last block is written, if there is one under way.
+#[tactic(auto, unfolding(crate::specs::Composer::finish_of, crate::specs::Composer::held_after))]
 pub fn finish(c: Composer, out: &mut [u8; 512]) -> Wrote
     ensures value { result ≡ finish_of c }
     ensures out_after { out.new ≡ finish_held c out.old }
 {
-    let stage = c.stage;
-    if notation::is_stopped(stage) {
-        return Wrote {
-            composer: c,
-            written: false,
-        };
-    }
-    if c.left != 0 {
-        return Wrote {
-            composer: c,
-            written: false,
-        };
+    if c.fault.is_some() || c.left != 0 {
+        return quiet(c);
     }
     if c.n == 0 {
-        return Wrote {
-            composer: stop(c, Fault::NodesMissing),
-            written: false,
-        };
+        return quiet(stop(c, Fault::NodesMissing));
     }
     if c.count != 0 {
         return flush(c, used_by(c.count), out);
     }
     if c.blocks == 0 {
-        return Wrote {
-            composer: stop(c, Fault::NoAction),
-            written: false,
-        };
+        return quiet(stop(c, Fault::NoAction));
     }
-    Wrote {
-        composer: c,
-        written: false,
-    }
+    quiet(c)
 }

@@ -4,10 +4,9 @@ use mathlib.Core.List.{List, [], ◌∷◌}
 use Prim.Native.Nat.{ℕ, suc}
 use native.Mathlib.Omega.{arith}
 use Rattle.charts.specs.Numbers as N
-use Rattle.charts.specs.Records.{read}
+use Rattle.charts.specs.Records.{Decoded, read}
 use Rattle.charts.specs.declared.Action.{Action}
-use Rattle.charts.specs.declared.Decoded.{Decoded}
-use Rattle.charts.specs.declared.Decoded.TheVariants as D
+use Rattle.std.specs.Prelude.{Ok, Err}
 use Rattle.files.specs.Pieces.{pieces}
 use Rattle.runfile.specs.Write.{refused_or, first_refusal}
 use Rattle.files.specs.File.{AllFit, file_of, IsFile, Taken}
@@ -35,8 +34,8 @@ one_by_one n [] fits e = tt
 one_by_one n (a ∷ l) fits e = go (read n a) refl (one_by_one n l fits.1) e
   where
     go : (d : Decoded) → read n a ≡ d → (first_refusal n l ≡ N.accepted → AllAccepted n l) → refused_or d (first_refusal n l) ≡ N.accepted → AllAccepted n (a ∷ l)
-    go (D.Refused k) r rest h = absurd (never_zero n a (rw h at r))
-    go (D.Accepted m) r rest h = (record { fits = fits.0; move = m; reads = r }, rest h)
+    go (Err k) r rest h = absurd (never_zero k h)
+    go (Ok m) r rest h = (record { fits = fits.0; move = m; reads = r }, rest h)
 
 -- their text is that of their lines
 lines_are : (n i : ℕ) (l : List Action) → AllAccepted n l → walking naming l n i (λ s j. []) ≡ action_lines l

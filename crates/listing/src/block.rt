@@ -1,11 +1,10 @@
 // The lines of a block's actions.
 ghost use Rattle.std.specs.Prelude.{◌≡◌, ◌+◌, ◌*◌, ◌≤◌, length};
 ghost use Rattle.files.specs.Pieces.{actions_in};
-ghost use Rattle.walk.specs.Feeding.{part_of};
-ghost use Rattle.walk.specs.Reading.{PutsPart};
+ghost use Rattle.walk.specs.Feeding.{PutsPart, part_of};
 ghost use Rattle.listing.specs.Listed.{naming};
 
-use walk::reading::Part;
+use walk::Part;
 
 // Puts the lines of a block's actions, the first of which has that index, from place `at` on, up to the first refusal.
 pub(crate) fn put_actions(
@@ -15,33 +14,29 @@ pub(crate) fn put_actions(
     first: u64,
     out: &mut [u8; 2048],
     at: usize,
-) -> Part
+) -> Part<u8>
     requires piece_len { length piece.now ≡ 512 }
     requires count_bound { count ≤ 31 }
     requires first_bound { first ≤ 133143986400 }
     requires at_bound { at ≤ 64 }
     ensures end_bound { result.end ≤ 2048 }
-    ensures puts_part { PutsPart (part_of naming (actions_in count piece.now) n first) out.old at result out.new }
+    ensures puts_part { PutsPart (λ k. k) (part_of naming (actions_in count piece.now) n first) out.old at result out.new }
 {
-    let last = count as usize;
     let mut end = at;
-    let mut k: usize = 0;
-    while k < last {
-        let from = 14 + 16 * k;
-        let a = record::read_action(&piece[from..]);
-        let number = record::number(record::decode(n, a));
-        if number != 0 {
-            let stop = transcript::put_refused(out, end, first + k as u64, number);
+    for k in 0..count as usize {
+        let a = record::read_action(&piece[14 + 16 * k..]);
+        if let Err(refusal) = record::decode(n, a) {
             return Part {
-                end: stop,
+                state: n,
+                end: transcript::put_refused(out, end, first + k as u64, refusal.number()),
                 ended: true,
             };
         }
         end = transcript::put_action(out, end, a);
-        k += 1;
     }
     Part {
-        end: end,
+        state: n,
+        end,
         ended: false,
     }
 }

@@ -3,52 +3,72 @@
 
 mod block;
 
-ghost use Rattle.std.specs.Prelude.{◌≡◌, ◌≤◌, length};
+ghost use Rattle.std.specs.Prelude.{◌≡◌, ◌≤◌, length, ℕ};
 ghost use Rattle.transcript.specs.Room.{put};
 ghost use Rattle.files.specs.Order.{is_ended};
 ghost use Rattle.walk.specs.Feeding.{feed_of, finish_of};
-ghost use Rattle.walk.specs.Reading.{seen};
+ghost use Rattle.walk.specs.Reading.{reading, started};
 ghost use Rattle.listing.specs.Listed.{naming};
 
+use charts::Refusal;
 use files::order;
 use files::order::Stage;
-use walk::reading::{Fed, Reading};
-use walk::{Found, reading};
+use walk::{Fed, Walk};
 
-const WRONG_LENGTH: u8 = 8;
-
-// Lists a piece of a file. Its text stands at the start of `out`.
-pub fn feed(l: Reading, piece: &[u8], out: &mut [u8; 2048]) -> Fed
-    ensures end_bound { result.end ≤ 2048 }
-    ensures end_value { result.end ≡ length (feed_of naming (seen l) piece.now).text }
-    ensures out_after { out.new ≡ put out.old 0 (feed_of naming (seen l) piece.now).text }
-    ensures reading_value { seen result.reading ≡ (feed_of naming (seen l) piece.now).after }
-    ensures ended_value { result.ended ≡ is_ended result.reading.stage }
-{
-    let stage = l.stage;
-    let entered = walk::enter(stage, l.n, piece, out);
-    let found = entered.found;
-    let Found::Block { number, count, n } = found else {
-        return reading::after(l.n, Stage::Ended, entered.end);
-    };
-    let at = walk::put_nodes_once(stage, n, out);
-    let part = block::put_actions(n, piece, count, order::accepted_by(stage), out, at);
-    reading::after(n, order::stage_after(part.ended, number, count), part.end)
+// A listing between two pieces of a file: block 0's n, and how far the file has been read.
+#[derive(Clone, Copy)]
+pub struct Listing {
+    pub n: u8,
+    pub stage: Stage,
 }
 
-// The file's end. Its text stands at the start of `out`; the answer is its length.
-pub fn finish(l: Reading, out: &mut [u8; 2048]) -> usize
-    ensures upper_bound { result ≤ 2048 }
-    ensures value { result ≡ length (finish_of naming.done l.stage) }
-    ensures out_after { out.new ≡ put out.old 0 (finish_of naming.done l.stage) }
-{
-    let stage = l.stage;
-    match stage {
-        Stage::Unopened => transcript::put_refused(out, 0, 0, WRONG_LENGTH),
-        Stage::After {
-            number: _,
-            count: _,
-        } => 0,
-        Stage::Ended => 0,
+impl Walk for Listing {
+    ghost State = { ℕ };
+
+    ghost walker = { naming };
+
+    ghost seen = { λ l. reading l.n l.stage };
+
+    fn start() -> Listing
+        ensures { reading result.n result.stage ≡ started }
+    {
+        Listing {
+            n: 0,
+            stage: Stage::Unopened,
+        }
+    }
+
+    // Lists a piece of a file.
+    fn feed(self, piece: &[u8], out: &mut [u8; 2048]) -> Fed<Listing> {
+        let entered = walk::enter(self.stage, self.n, piece, out);
+        let Some(head) = entered.found else {
+            return Fed {
+                walk: Listing {
+                    stage: Stage::Ended,
+                    ..self
+                },
+                end: entered.end,
+                ended: true,
+            };
+        };
+        let at = walk::put_nodes_once(self.stage, head.n, out);
+        let first = order::accepted_by(self.stage);
+        let part = block::put_actions(head.n, piece, head.count, first, out, at);
+        Fed {
+            walk: Listing {
+                n: part.state,
+                stage: order::stage_after(part.ended, head.number, head.count),
+            },
+            end: part.end,
+            ended: part.ended,
+        }
+    }
+
+    // Nothing stands at a file's end, unless the file has no bytes.
+    fn finish(self, out: &mut [u8; 2048]) -> usize {
+        match self.stage {
+            Stage::Unopened => { transcript::put_refused(out, 0, 0, Refusal::WrongLength.number()) }
+            _ => 0,
+        }
     }
 }

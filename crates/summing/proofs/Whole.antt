@@ -9,10 +9,9 @@ use lib.Dec.{eqb-suc-zero}
 use lib.ListN.{length, take, length-append}
 use lib.Seq.{take_all, take_at, drop_at}
 use Rattle.charts.specs.Numbers as N
-use Rattle.charts.specs.Records.{read}
+use Rattle.charts.specs.Records.{Decoded, read}
 use Rattle.charts.specs.declared.Action.{Action}
-use Rattle.charts.specs.declared.Decoded.{Decoded}
-use Rattle.charts.specs.declared.Decoded.TheVariants as D
+use Rattle.std.specs.Prelude.{Ok, Err}
 use Rattle.record.specs.Bytes.{Bytes}
 use Rattle.files.specs.File.{blocks_for, Blocks, last, next, IsFile, Taken, file_of}
 use Rattle.files.specs.Pieces.{pieces, Before, none, is_first}
@@ -46,8 +45,8 @@ silent n (a ∷ l) i f h = go (read n a) refl (silent n l (suc i) f) h
   where
     go : (d : Decoded) → read n a ≡ d → (first_refusal n l ≡ N.accepted → walking tracing l n (suc i) f ≡ f n (suc i + length l)) → refused_or d (first_refusal n l) ≡ N.accepted
         → walking tracing (a ∷ l) n i f ≡ f n (i + length (a ∷ l))
-    go (D.Refused k) r rest e = absurd (never_zero n a (rw e at r))
-    go (D.Accepted m) r rest e =
+    go (Err k) r rest e = absurd (never_zero k e)
+    go (Ok m) r rest e =
         let next : i + length (a ∷ l) ≡ suc i + length l = omega arith in
         rw (r, next) (rest e)
 

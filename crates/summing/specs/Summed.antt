@@ -1,21 +1,18 @@
 -- The text that `sums` prints of a run file: the file walked, each block headed by its line of sums, and its actions looked at.
-use Rattle.std.specs.Prelude.{true, false, cond, List, [], ◌++◌, ℕ, zero, suc, eqb, length, take, drop}
-use Rattle.charts.specs.Numbers as N
+use Rattle.std.specs.Prelude.{List, [], ◌++◌, ℕ, zero, suc, length, take, drop}
 use Rattle.charts.specs.Records.{read}
 use Rattle.charts.specs.declared.Action.{Action}
-use Rattle.record.specs.Looked.{number_of}
+use Rattle.charts.specs.Numbers.{err_number}
 use Rattle.files.specs.File.{blocks_for}
 use Rattle.runfile.specs.Sums.{sums_of}
 use Rattle.runfile.specs.Write.{block_of}
-use Rattle.transcript.specs.Lines.{done_line, refused_line}
+use Rattle.transcript.specs.Lines.{done_line}
 use Rattle.figures.specs.Figures.{figures_line}
 use Rattle.walk.specs.Walk.{Turn, Walker, walked}
-use Rattle.walk.specs.Feeding.{Part}
-use Rattle.summing.specs.declared.block.Looked.{Looked}
 
 -- an action looked at by 2 to 6 (13 and 15 after 5), without a line; the state of the walk is block 0's n
 abbrev pub turn : Action → ℕ → Turn ℕ
-turn a n = record { number = number_of (read n a); line = []; state = n }
+turn a n = record { number = err_number (read n a); line = []; state = n }
 
 -- "for each block, its number and the sums of its actions, one line a block, single spaces", as many as its count, before its actions; "ended by the player's `done` or `refused` line"
 abbrev pub tracing : Walker ℕ
@@ -39,9 +36,3 @@ traces_from (suc k) i n l = figures_line i (take (length (take 31 l)) (sums_of (
 
 abbrev pub list_summed : ℕ → List Action → List ℕ
 list_summed n l = traces_from (blocks_for (length l)) 0 n l ++ done_line (length l)
-
--- what the actions of a block give that were looked at: nothing, or the line of the first that is refused
-abbrev pub looked_part : ℕ → Looked → Part ℕ
-looked_part n r =
-    cond (eqb r.number N.accepted) (record { text = []; state = n; ended = false })
-    (record { text = refused_line r.index r.number; state = n; ended = true })

@@ -3,47 +3,70 @@
 
 mod block;
 
-ghost use Rattle.std.specs.Prelude.{◌≡◌, ◌≤◌, length};
+ghost use Rattle.std.specs.Prelude.{◌≡◌, ◌≤◌, length, ℕ};
 ghost use Rattle.transcript.specs.Lines.{done_line};
 ghost use Rattle.transcript.specs.Room.{put};
 ghost use Rattle.files.specs.Order.{is_ended};
 ghost use Rattle.walk.specs.Feeding.{feed_of, finish_of};
-ghost use Rattle.walk.specs.Reading.{seen};
+ghost use Rattle.walk.specs.Reading.{reading, started};
 ghost use Rattle.summing.specs.Summed.{tracing};
 
 use files::order;
 use files::order::Stage;
-use walk::reading::{Fed, Reading};
-use walk::{Found, reading};
+use walk::{Fed, Walk};
 
-// The line of sums of a piece of a file, or its refusal. The text stands at the start of `out`.
-pub fn feed(s: Reading, piece: &[u8], out: &mut [u8; 2048]) -> Fed
-    ensures end_bound { result.end ≤ 2048 }
-    ensures end_value { result.end ≡ length (feed_of tracing (seen s) piece.now).text }
-    ensures out_after { out.new ≡ put out.old 0 (feed_of tracing (seen s) piece.now).text }
-    ensures reading_value { seen result.reading ≡ (feed_of tracing (seen s) piece.now).after }
-    ensures ended_value { result.ended ≡ is_ended result.reading.stage }
-{
-    let stage = s.stage;
-    let entered = walk::enter(stage, s.n, piece, out);
-    let found = entered.found;
-    let Found::Block { number, count, n } = found else {
-        return reading::after(s.n, Stage::Ended, entered.end);
-    };
-    let sums = runfile::action_sums(piece);
-    let last = count as usize;
-    let at = figures::put_figures(out, 0, number as u64, &sums[..last]);
-    let looked = block::look_at_actions(n, piece, count, order::accepted_by(stage));
-    let part = block::put_refusal(out, at, n, looked);
-    reading::after(n, order::stage_after(part.ended, number, count), part.end)
+// A summing between two pieces of a file: block 0's n, and how far the file has been read.
+#[derive(Clone, Copy)]
+pub struct Summing {
+    pub n: u8,
+    pub stage: Stage,
 }
 
-// The file's end. Its text stands at the start of `out`; the answer is its length.
-pub fn finish(s: Reading, out: &mut [u8; 2048]) -> usize
-    ensures upper_bound { result ≤ 2048 }
-    ensures value { result ≡ length (finish_of done_line s.stage) }
-    ensures out_after { out.new ≡ put out.old 0 (finish_of done_line s.stage) }
-{
-    let stage = s.stage;
-    walk::put_end(stage, out)
+impl Walk for Summing {
+    ghost State = { ℕ };
+
+    ghost walker = { tracing };
+
+    ghost seen = { λ s. reading s.n s.stage };
+
+    fn start() -> Summing
+        ensures { reading result.n result.stage ≡ started }
+    {
+        Summing {
+            n: 0,
+            stage: Stage::Unopened,
+        }
+    }
+
+    // The line of sums of a piece of a file, or its refusal.
+    fn feed(self, piece: &[u8], out: &mut [u8; 2048]) -> Fed<Summing> {
+        let entered = walk::enter(self.stage, self.n, piece, out);
+        let Some(head) = entered.found else {
+            return Fed {
+                walk: Summing {
+                    stage: Stage::Ended,
+                    ..self
+                },
+                end: entered.end,
+                ended: true,
+            };
+        };
+        let sums = runfile::action_sums(piece);
+        let last = head.count as usize;
+        let at = figures::put_figures(out, 0, head.number as u64, &sums[..last]);
+        let first = order::accepted_by(self.stage);
+        let part = block::look_at_actions(head.n, piece, head.count, first, out, at);
+        Fed {
+            walk: Summing {
+                n: part.state,
+                stage: order::stage_after(part.ended, head.number, head.count),
+            },
+            end: part.end,
+            ended: part.ended,
+        }
+    }
+
+    fn finish(self, out: &mut [u8; 2048]) -> usize {
+        walk::put_end(self.stage, out)
+    }
 }

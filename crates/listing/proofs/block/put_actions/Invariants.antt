@@ -1,5 +1,4 @@
-use Prim.Native.Nat.{◌+◌, ◌*◌, ◌-◌, ◌≤◌}
-use mathlib.Core.Path.{◌≡◌}
+use Prim.Native.Nat.{◌+◌, ◌*◌, ◌≤◌}
 use Rattle.files.specs.Pieces.{actions_in}
 use Rattle.files.proofs.Pieces.{left}
 use Rattle.walk.specs.Feeding.{part_of}
@@ -8,8 +7,5 @@ use Rattle.listing.specs.Listed.{naming}
 use Rattle.listing.proofs.block.put_actions.Given as goal
 
 abbrev pub invariant-loop-k : goal.invariant-loop-k
-invariant-loop-k l = (l.k ≤ l.last) × (l.last ≡ l.count) × (l.end ≤ l.at + 64 * l.k)
+invariant-loop-k l = (l.end ≤ l.at + 64 * l.k)
     × Same l.initial.out l.at (part_of naming (actions_in l.count l.piece) l.n l.first) l.out l.end (part_of naming (left l.count l.k l.piece) l.n (l.first + l.k))
-
-abbrev pub decreases-loop-k : goal.decreases-loop-k
-decreases-loop-k l = l.last - l.k
