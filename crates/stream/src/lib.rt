@@ -10,6 +10,7 @@ ghost use Rattle.std.specs.Io.KnownBytes.{Appends, Consumes, IsAtEnd};
 ghost use Rattle.stream.specs.Collected.{count_of, sent, taken_as, used_after, held_after, buf_after};
 ghost use Rattle.stream.specs.Lines.{newline_of, added, rest_of};
 ghost use Rattle.stream.specs.Reading.{count_read};
+ghost use Rattle.stream.specs.declared.Failure.TheVariants.{Input};
 
 use std::io;
 use std::io::{Eprint, Read, Write};
@@ -39,6 +40,8 @@ pub enum Failure {
 }
 
 impl From<ReadError> for Failure {
+    ghost from_gives = { λ failed failure. failure ≡ Input failed.error };
+
     fn from(failed: ReadError) -> Failure {
         Failure::Input(failed.error)
     }
@@ -262,9 +265,13 @@ pub fn tell(err: &impl Eprint, program: &str, failure: Failure) {
     let _ = eprintln!(err; "{program}: standard {what}: {reason}");
 }
 
-// Writes the whole output of a program, and tells where that fails.
-pub fn print<W: Write>(err: &impl Eprint, program: &str, writer: &mut W, text: &[u8]) {
+// Writes the whole output of a program, and tells where that fails. Answers whether it was written.
+pub fn print<W: Write>(err: &impl Eprint, program: &str, writer: &mut W, text: &[u8]) -> bool
+    ensures { result ≡ true → Appends (W.contents writer.old) (W.contents writer.new) text.now }
+{
     if let Err(error) = writer.write_all(text) {
         tell(err, program, Failure::Output(error));
+        return false;
     }
+    true
 }
