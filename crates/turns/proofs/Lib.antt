@@ -1,5 +1,4 @@
-pub mod Filled
+pub mod Lowest
 pub mod Negated
-pub mod Spells
 pub mod Rules
 pub mod Turning

@@ -1,7 +1,7 @@
 -- Of a trial's bus the rules over arrays and over one node's values are the charts' rules. Assumes nothing.
 use mathlib.Core.Path.{◌≡◌, refl, sym, ap, ap₂, subst, ◌∙◌}
 use mathlib.Core.Bool.{Bool, true, false, cond, ◌&&◌, ◌||◌, not, true≢false}
-use Prim.Native.Nat.{ℕ, zero, suc, ◌+◌, ◌<◌, ◌≤◌}
+use Prim.Native.Nat.{ℕ, suc, ◌+◌, ◌<◌, ◌≤◌}
 use native.Mathlib.Omega.{arith}
 use lib.Dec.{eqb}
 use borrow.Author.Tests.{eqb-true, lt-ltb, not-true}
@@ -26,16 +26,9 @@ use Rattle.charts.specs.Demand.{one}
 use Rattle.charts.specs.Trials.{Load, request_by, is_due, delivers, strays, holder_of, asking, bidding, asker, starts, chooses, choice, only_waits, least, lefts, waits, is_carried, checked_to, came, heard_after, is_of, fills, filled_after, made_after, is_request, reported, counted}
 use Rattle.charts.proofs.Tools.{never, clash, and-true, both, or-false, and_no, and_yes, pick, pick_by, by_test, none_of, some-none, lowest_none, lowest_agree, lowest_of, lowest_lt}
 use Rattle.charts.proofs.Chosen.{Chosen, carries, grants, gaps, answers, replies, clocks, asks, bids, resets, least_le, is_waiting, all-empty, waits_none}
+use Rattle.turns.proofs.Lowest.{lowest_same}
 use Rattle.turns.proofs.Negated.{not-not}
 use Rattle.turns.specs.Turns.{is_full, overs, without, first_of, waits_by, actor_by, starts_at, chooses_at, capped, checked_in, filled_by, made_by, counter, request_counted, report_counted}
-
-lowest_same : (f : ℕ → Bool) (n d e : ℕ) → some f n ≡ true → lowest f n d ≡ lowest f n e
-lowest_same f zero d e t = never t
-lowest_same f (suc n) d e t = go (f n) refl (lowest_same f n d e)
-  where
-    go : (b : Bool) → f n ≡ b → (some f n ≡ true → lowest f n d ≡ lowest f n e) → lowest f n (cond b n d) ≡ lowest f n (cond b n e)
-    go true q r = refl
-    go false q r = r (sym (ap (λ b. b || some f n) q) ∙ t)
 
 -- a request, a respond or a clock
 abbrev pub named : ℕ → Bool
@@ -87,7 +80,7 @@ module _ (l : Load) where
 
   module _ (us : ℕ → User) (small : l.state.n ≤ 63) (some_node : 1 ≤ l.state.n) where
     asks_agree : (k : ℕ) → k < l.state.n → without (overs (lefts l)) fulls k ≡ asking l k
-    asks_agree k h = ap₂ (λ x y. (x && eqb (lefts l k) 0) && y) (lt-ltb k 63 (omega arith)) (not-not (is_empty (l.state.cell k).buffer)) ∙ swap (eqb (lefts l k) 0) (is_empty (l.state.cell k).buffer)
+    asks_agree k h = ap (λ y. eqb (lefts l k) 0 && y) (not-not (is_empty (l.state.cell k).buffer)) ∙ swap (eqb (lefts l k) 0) (is_empty (l.state.cell k).buffer)
       where
         swap : (a b : Bool) → a && b ≡ b && a
         swap true true = refl

@@ -1,6 +1,6 @@
 -- The rules of a trial (charts' Trials.antt) over what the code has: marks and numbers in arrays, and of one node its cell, its user and what is kept of it.
 -- (proofs/Rules.antt: of a trial's bus they are the rules.)
-use Rattle.std.specs.Prelude.{◌≡◌, Bool, false, cond, ◌&&◌, ◌||◌, not, List, ℕ, suc, ◌-◌, ◌≤◌, eqb, ltb, get_or, length}
+use Rattle.std.specs.Prelude.{◌≡◌, Bool, false, cond, ◌&&◌, ◌||◌, not, List, ℕ, suc, ◌≤◌, eqb, ltb, get_or, length}
 use Rattle.charts.specs.declared.Action.{Action}
 use Rattle.charts.specs.declared.Bus.{Bus}
 use Rattle.charts.specs.declared.Cell.{Cell}
@@ -15,28 +15,21 @@ use Rattle.charts.specs.declared.User.{User}
 use Rattle.charts.specs.Modes.{is_answering, is_spurious}
 use Rattle.charts.specs.Signals.{is_checked}
 use Rattle.charts.specs.State.{some, lowest, is_empty}
-use Rattle.charts.specs.View.{fresh_node, mark, view, Sized}
+use Rattle.charts.specs.View.{fresh_node, view, Sized}
 use Rattle.charts.specs.Demand.{history}
 use Rattle.charts.specs.Asking.{of_node}
-use Rattle.charts.specs.Trials.{request_by, delivers, acts, is_over, least, is_carried, heard_after, won_by, Load, load_after, trial, Sends, tally_of}
+use Rattle.charts.specs.Trials.{nothing_kept, request_by, delivers, acts, is_over, least, is_carried, heard_after, won_by, lowered, Load, load_after, trial, Sends, tally_of}
 
--- the number of node k in an array
-abbrev pub at : List ℕ → ℕ → ℕ
-at l k = get_or l k 0
+-- what is kept of the user of node k; and what is left of its spell
+abbrev pub kept_in : List Kept → ℕ → Kept
+kept_in l k = get_or l k nothing_kept
 
--- the user of node k, and what is kept of it
-abbrev pub user_of : List ℕ → List ℕ → List ℕ → List Bool → List ℕ → ℕ → User
-user_of spell address fillers hold period k = record { spell = at spell k; address = at address k; fillers = at fillers k; hold = mark hold k; period = at period k }
-
-abbrev pub kept_of : List ℕ → List ℕ → List ℕ → List ℕ → ℕ → Kept
-kept_of left heard filled made k = record { left = at left k; heard = at heard k; filled = at filled k; made = at made k }
+abbrev pub left_in : List Kept → ℕ → ℕ
+left_in l k = (kept_in l k).left
 
 -- two marks that the nodes' records have: a full buffer, a Spurious holder
 abbrev pub is_full : Cell → Bool
 is_full c = not (is_empty c.buffer)
-
-abbrev pub is_stray : Cell → Bool
-is_stray c = c.holder && is_spurious c.mode
 
 abbrev pub full_in : List Node → ℕ → Bool
 full_in nodes k = not (is_empty (get_or nodes k fresh_node).buffer)
@@ -46,7 +39,7 @@ stray_in nodes holder k = holder k && is_spurious (get_or nodes k fresh_node).mo
 
 -- marks of nodes whose spell is over; the marks f without the marks g
 abbrev pub overs : (ℕ → ℕ) → ℕ → Bool
-overs left k = ltb k 63 && eqb (left k) 0
+overs left k = eqb (left k) 0
 
 abbrev pub without : (ℕ → Bool) → (ℕ → Bool) → ℕ → Bool
 without f g k = f k && not (g k)
@@ -108,25 +101,15 @@ kept_after phase c u a x = record {
   made = made_by a.kind x.made;
 }
 
--- the lefts after waiting, or after an action; and after a report
-abbrev pub lowered_by : ℕ → (ℕ → ℕ) → ℕ → ℕ
-lowered_by w left k = left k - w
+-- what is kept after waiting, or after an action; and after a report
+abbrev pub lowered_by : ℕ → (ℕ → Kept) → ℕ → Kept
+lowered_by w kept k = lowered w (kept k)
 
-abbrev pub spelled : Report → (ℕ → ℕ) → (ℕ → ℕ) → ℕ → ℕ
-spelled r spell left k = cond (won_by k r) (spell k) (left k)
+abbrev pub spells : Bool → ℕ → Kept → Kept
+spells wins spell x = record { left = cond wins spell x.left; heard = x.heard; filled = x.filled; made = x.made }
 
--- the node that a report says has won, else 63
-abbrev pub winner_of : Report → ℕ
-winner_of Silent = 63
-winner_of (Won i) = i
-winner_of (Lost i) = 63
-winner_of (Sent i x) = 63
-winner_of (Acked i a x) = 63
-winner_of (Miss i x) = 63
-winner_of (Drop i m) = 63
-winner_of (Good i h d) = 63
-winner_of (Dcrc i h) = 63
-winner_of (Broad i h d) = 63
+abbrev pub spelled : Report → (ℕ → User) → (ℕ → Kept) → ℕ → Kept
+spelled r us kept k = spells (won_by k r) (us k).spell (kept k)
 
 -- the tally after an action; a counter of 16 bits stays at its largest number
 abbrev pub counter : ℕ → ℕ
@@ -148,8 +131,8 @@ report_counted (Dcrc i h) t = t
 report_counted (Broad i h d) t = t
 
 -- a trial under way over arrays, and its tally after k actions: that of the events of its list
-abbrev pub load_in : Bus → List ℕ → List ℕ → List ℕ → List ℕ → Load
-load_in b left heard filled made = record { state = view b; kept = kept_of left heard filled made }
+abbrev pub load_in : Bus → List Kept → Load
+load_in b kept = record { state = view b; kept = kept_in kept }
 
 abbrev pub tally_after : (ℕ → User) → ℕ → ℕ → Tally
 tally_after us n k = tally_of (history n (trial us n k))
@@ -160,18 +143,9 @@ pub record Allowed (us : ℕ → User) (n : ℕ) : Type 0 where
   pub small : n ≤ 63
   pub fine : Sends us n
 
--- such a trial after k actions; the marks of full buffers and of Spurious holders are the records'
-pub record Stands (us : ℕ → User) (k : ℕ) (b : Bus) (left heard filled made : List ℕ) (t : Tally) : Type 0 where
-  pub load : load_in b left heard filled made ≡ load_after us b.n k
+-- such a trial after k actions
+pub record Stands (us : ℕ → User) (k : ℕ) (b : Bus) (kept : List Kept) (t : Tally) : Type 0 where
+  pub load : load_in b kept ≡ load_after us b.n k
   pub tally : t ≡ tally_after us b.n k
   pub sized : Sized b
-  pub left_size : length left ≡ 63
-  pub heard_size : length heard ≡ 63
-  pub filled_size : length filled ≡ 63
-  pub made_size : length made ≡ 63
-
-pub record Marked (b : Bus) (full stray : List Bool) : Type 0 where
-  pub full_size : length full ≡ 63
-  pub stray_size : length stray ≡ 63
-  pub fulls : mark full ≡ full_in b.nodes
-  pub strays : mark stray ≡ stray_in b.nodes (mark b.holder)
+  pub kept_size : length kept ≡ 63

@@ -1,174 +1,77 @@
 // Scans of all nodes: how much is waited, and whose turn it is. Nodes from n on are not looked at.
-ghost use Rattle.std.specs.Prelude.{◌≡◌, ◌&&◌, ◌<◌, ◌≤◌, ltb, eqb, length};
-ghost use Rattle.charts.specs.State.{lowest, is_idle};
+ghost use Rattle.std.specs.Prelude.{◌≡◌, ◌<◌, ◌≤◌};
+ghost use Rattle.charts.specs.State.{is_idle};
 ghost use Rattle.charts.specs.View.{mark};
 ghost use Rattle.bus.specs.Asking.{places};
-ghost use Rattle.turns.specs.Turns.{at, full_in, stray_in, is_full, is_stray, overs, without, first_of, waits_by, placed, actor_by};
+ghost use Rattle.turns.specs.Turns.{left_in, full_in, stray_in, overs, without, first_of, waits_by, actor_by};
 
 use bus::asking::places;
-use charts::{Cell, Node, Phase};
-use deciding::bools::both;
+use charts::{Bus, Kept, Node, Phase};
 
-// A node with a full buffer; a Spurious holder.
-pub fn is_full(c: Cell) -> bool
-    ensures { result ≡ is_full c }
+// Whether the buffer of node k is full.
+fn is_full(nodes: &[Node; 63], k: u8) -> bool
+    requires { k < 63 }
+    ensures { result ≡ full_in nodes.now k }
 {
-    let buffer = c.buffer;
-    !deciding::cells::is_empty(buffer)
-}
-
-pub fn is_stray(c: Cell) -> bool
-    ensures { result ≡ is_stray c }
-{
-    let mode = c.mode;
-    both(c.holder, link::modes::is_spurious(mode))
-}
-
-// These marks of all nodes. (An array lent as a slice tells its length: beyond it there is no mark.)
-pub fn fulls(nodes: [Node; 63]) -> [bool; 63]
-    ensures result_len { length result ≡ 63 }
-    ensures result_value { mark result ≡ full_in nodes }
-{
-    let mut marks = [false; 63];
-    let mut k: usize = 0;
-    while k < 63 {
-        let x = nodes[k];
-        let buffer = x.buffer;
-        marks[k] = !deciding::cells::is_empty(buffer);
-        k += 1;
-    }
-    marks
-}
-
-pub fn strays(nodes: [Node; 63], holder: &[bool; 63]) -> [bool; 63]
-    ensures result_len { length result ≡ 63 }
-    ensures result_value { mark result ≡ stray_in nodes (mark holder.now) }
-{
-    let held: &[bool] = holder;
-    let mut marks = [false; 63];
-    let mut k: usize = 0;
-    while k < 63 {
-        let x = nodes[k];
-        let mode = x.mode;
-        marks[k] = both(held[k], link::modes::is_spurious(mode));
-        k += 1;
-    }
-    marks
-}
-
-// Which spells are over.
-fn overs(left: &[u8; 63]) -> [bool; 63]
-    ensures { mark result ≡ overs (at left.now) }
-{
-    let mut marks = [false; 63];
-    let mut k: usize = 0;
-    while k < 63 {
-        marks[k] = left[k] == 0;
-        k += 1;
-    }
-    marks
-}
-
-// The marks of one sort without those of another.
-fn without(f: &[bool; 63], g: &[bool; 63]) -> [bool; 63]
-    ensures { mark result ≡ without (mark f.now) (mark g.now) }
-{
-    let from: &[bool] = f;
-    let mut marks = [false; 63];
-    let mut k: usize = 0;
-    while k < 63 {
-        marks[k] = both(from[k], !g[k]);
-        k += 1;
-    }
-    marks
-}
-
-// The lowest marked node, else `other`.
-fn lowest(marks: &[bool; 63], n: u8, other: u8) -> u8
-    requires { (n ≤ 63) × (other < 63) }
-    ensures value { result ≡ lowest (mark marks.now) n other }
-    ensures upper_bound { result < 63 }
-{
-    let mut found = other;
-    let mut k = n;
-    while 0 < k {
-        k -= 1;
-        if marks[k as usize] {
-            found = k;
-        }
-    }
-    found
+    nodes[k as usize].buffer.is_some()
 }
 
 // How much is waited.
-pub fn wait(phase: Phase, full: &[bool; 63], won: &[bool; 63], left: &[u8; 63], n: u8) -> u8
-    ensures { result ≡ waits_by (is_idle phase) (mark full.now) (mark won.now) (at left.now) (places n) }
+pub fn wait(bus: &Bus, kept: &[Kept; 63]) -> u8
+    ensures { result ≡ waits_by (is_idle bus.now.phase) (full_in bus.now.nodes) (mark bus.now.won) (left_in kept.now) (places bus.now.n) }
 {
-    if !deciding::phases::is_idle(phase) {
+    if !deciding::phases::is_idle(bus.phase) {
         return 0;
     }
-    let last = places(n);
-    let mut found = left[0];
-    let mut k: u8 = 0;
-    while k < last {
-        let i = k as usize;
-        if full[i] {
+    let mut least = kept[0].left;
+    for k in 0..places(bus.n) {
+        if is_full(&bus.nodes, k) || bus.won[k as usize] {
             return 0;
         }
-        if won[i] {
-            return 0;
-        }
-        if left[i] < found {
-            found = left[i];
-        }
-        k += 1;
+        least = least.min(kept[k as usize].left);
     }
-    found
+    least
 }
 
-// Who may ask or arbitrate on an Idle bus.
-fn starter(n: u8, full: &[bool; 63], won: &[bool; 63], left: &[u8; 63]) -> u8
+// Who may ask or arbitrate on an Idle bus, of the nodes below n.
+fn starter(n: u8, bus: &Bus, kept: &[Kept; 63]) -> u8
     requires { n ≤ 63 }
-    ensures value { result ≡ first_of (without (overs (at left.now)) (mark full.now)) (without (mark full.now) (mark won.now)) n }
+    ensures value { result ≡ first_of (without (overs (left_in kept.now)) (full_in bus.now.nodes)) (without (full_in bus.now.nodes) (mark bus.now.won)) n }
     ensures upper_bound { result < 63 }
 {
-    let over = overs(left);
-    let asks = without(&over, full);
-    let bids = without(full, won);
-    lowest(&asks, n, lowest(&bids, n, 0))
+    let asks = (0..n).find(|k| kept[*k as usize].left == 0 && !is_full(&bus.nodes, *k));
+    if let Some(k) = asks {
+        return k;
+    }
+    (0..n)
+        .find(|k| is_full(&bus.nodes, *k) && !bus.won[*k as usize])
+        .unwrap_or(0)
 }
 
-// The place of node i in the arrays, else 0.
-fn placed(i: u8) -> u8
-    ensures value { result ≡ placed i }
+// Who acts on a Busy one: the lowest Spurious holder, or else the lowest holder.
+fn acting(n: u8, bus: &Bus) -> u8
+    requires { n ≤ 63 }
+    ensures value { result ≡ first_of (stray_in bus.now.nodes (mark bus.now.holder)) (mark bus.now.holder) n }
     ensures upper_bound { result < 63 }
 {
-    if i < 63 { i } else { 0 }
+    let stray = (0..n).find(|k| bus.holder[*k as usize]
+        && link::modes::is_spurious(bus.nodes[*k as usize].mode));
+    if let Some(k) = stray {
+        return k;
+    }
+    deciding::marks::lowest(&bus.holder, n).unwrap_or(0)
 }
 
 // The node whose turn it is. (A receiver that has no place in the arrays counts as node 0; no bus has one.)
-pub fn actor(
-    n: u8,
-    phase: Phase,
-    full: &[bool; 63],
-    won: &[bool; 63],
-    left: &[u8; 63],
-    stray: &[bool; 63],
-    holder: &[bool; 63],
-) -> u8
-    ensures value { result ≡ actor_by (places n) phase (mark full.now) (mark won.now) (at left.now) (mark stray.now) (mark holder.now) }
+pub fn actor(bus: &Bus, kept: &[Kept; 63]) -> u8
+    ensures value { result ≡ actor_by (places bus.now.n) bus.now.phase (full_in bus.now.nodes) (mark bus.now.won) (left_in kept.now) (stray_in bus.now.nodes (mark bus.now.holder)) (mark bus.now.holder) }
     ensures upper_bound { result < 63 }
 {
-    let last = places(n);
-    match phase {
-        Phase::Idle => starter(last, full, won, left),
-        Phase::Busy => lowest(stray, last, lowest(holder, last, 0)),
-        Phase::Delivering {
-            sender: _,
-            signal: _,
-            next,
-        } => placed(next),
-        Phase::Granting => 0,
-        Phase::Gapping(_) => 0,
+    let last = places(bus.n);
+    match bus.phase {
+        Phase::Idle => starter(last, bus, kept),
+        Phase::Busy => acting(last, bus),
+        Phase::Delivering { next, .. } if next < 63 => next,
+        _ => 0,
     }
 }

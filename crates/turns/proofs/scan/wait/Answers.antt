@@ -1,33 +1,25 @@
-use Rattle.charts.specs.State.{some, is_idle}
-use Rattle.charts.proofs.Tools.{some_at, and_no, or_yes}
-use borrow.Author.Rules.{rules}
-use native.Mathlib.Numerals.{add-one}
-use mathlib.Core.Bool.{◌||◌, true}
-use borrow.Author.Tests.{not-true, not-false, lt-ltb, le-ltb}
+use Rattle.std.proofs.Common.{◌≡◌, ◌<◌, ℕ, Bool, true}
+use mathlib.Core.Bool.{◌||◌}
 use native.Mathlib.Omega.{arith}
-use mathlib.Core.Path.{◌≡◌, ap, ◌∙◌}
+use Rattle.charts.specs.State.{is_idle}
 use Rattle.charts.specs.View.{mark}
+use Rattle.charts.proofs.Tools.{some_at, and_no, or_yes}
+use Rattle.turns.specs.Turns.{left_in, full_in, waits_by}
 use Rattle.turns.proofs.scan.wait.Goals as goal
-use Rattle.turns.proofs.scan.wait.Goals.{then-left-i, else-left-i}
+use Rattle.turns.proofs.scan.wait.Goals.{then-is_full-via-then-is_full, then-is_full-via-else-is_full+then-bus-k}
 
-pub returns-then-not-is_idle : goal.returns-then-not-is_idle
-returns-then-not-is_idle c = simp (← c.is_idle.ensures, not-true c.is_idle.result c.if-not-is_idle.true-raw)
+-- where a node is taken nothing is waited
+none_free : (idle : Bool) (full won : ℕ → Bool) (left : ℕ → ℕ) (n k : ℕ) → k < n → (full k || won k) ≡ true → 0 ≡ waits_by idle full won left n
+none_free idle full won left n k h e = rw (some_at (λ k. full k || won k) n k h e, and_no idle)
 
-pub returns-then-full-i : goal.returns-then-full-i
-returns-then-full-i c = let found : some (λ k. mark c.args.full.now k || mark c.args.won.now k) c.places-last.result ≡ true = some_at _ c.places-last.result c.loop-k.k c.loop-k-test.true (ap (λ b. b || mark c.args.won.now c.loop-k.k) c.if-full-i.true) in
-    rw (← c.places-last.ensures.value, found, and_no (is_idle c.args.phase))
-
-pub returns-then-won-i : goal.returns-then-won-i
-returns-then-won-i c = let found : some (λ k. mark c.args.full.now k || mark c.args.won.now k) c.places-last.result ≡ true = some_at _ c.places-last.result c.loop-k.k c.loop-k-test.true (ap (λ b. mark c.args.full.now c.loop-k.k || b) c.if-won-i.true ∙ or_yes (mark c.args.full.now c.loop-k.k)) in
-    rw (← c.places-last.ensures.value, found, and_no (is_idle c.args.phase))
-
-pub loop-k-preserved : goal.loop-k-preserved
-loop-k-preserved c = (
-  search rules,
-  rw (add-one, c.if-full-i.false, c.if-won-i.false, c.loop-k.invariant.1),
-  rw (add-one, ← c.loop-k.invariant.2) (elim c.if-left-i.branch [ then-left-i w ↦ rw (lt-ltb _ _ w.if-left-i.true) w.found-is | else-left-i w ↦ rw (le-ltb _ _ w.if-left-i.false) w.found-is ]),
-)
+pub returns-then-is_full : goal.returns-then-is_full
+returns-then-is_full c =
+    let k = c.loop-k.k in
+    let taken : (full_in c.args.bus.now.nodes k || mark c.args.bus.now.won k) ≡ true = elim c.then-is_full.branch [
+      | then-is_full-via-then-is_full w ↦ rw (← c.is_full.ensures, w.if-is_full.true)
+      | then-is_full-via-else-is_full+then-bus-k w ↦ rw w.if-bus-k.true (or_yes (full_in c.args.bus.now.nodes k))
+    ] in rw (← c.places-k-end.ensures.value) (none_free (is_idle c.args.bus.now.phase) (full_in c.args.bus.now.nodes) (mark c.args.bus.now.won) (left_in c.args.kept.now) c.places-k-end.result k c.loop-k-test.true taken)
 
 pub returns : goal.returns
-returns c = let e : c.loop-k.k ≡ c.places-last.result = omega arith in
-    rw (← c.is_idle.ensures, not-false c.is_idle.result c.if-not-is_idle.false-raw, ← c.places-last.ensures.value, ← e, c.loop-k.invariant.1, c.loop-k.invariant.2)
+returns c = let e : c.loop-k.k ≡ c.places-k-end.result = omega arith in
+    rw (c.loop-k.invariant.lowest, ← c.places-k-end.ensures.value, ← e, c.loop-k.invariant.free, ← c.is_idle.ensures, c.if-not-is_idle.false)
