@@ -1,6 +1,7 @@
 -- What a replay answers, and that demand 3 holds of it.
 use Rattle.std.specs.Prelude.{◌≡◌, true, List, ℕ, ◌/◌, length}
 use Rattle.charts.specs.declared.Action.{Action}
+use Rattle.charts.specs.Numbers.{refusal_number}
 use Rattle.charts.specs.State.{State}
 use Rattle.charts.specs.Valid.{is_size}
 use Rattle.charts.specs.Step.{begin, after}
@@ -20,7 +21,7 @@ pub record Replay : Type 0 where
   pub state : State
 
 abbrev pub seen_replay : Replayed → Replay
-seen_replay r = record { number = r.number; accepted = r.accepted; state = view r.bus }
+seen_replay r = record { number = refusal_number r.refusal; accepted = r.accepted; state = view r.bus }
 
 -- "each later one the state that the step before returned, after a refusal as well"
 abbrev pub played_on : ℕ → State → List Action → Replay

@@ -1,45 +1,86 @@
-use mathlib.Core.Path.{◌≡◌, sym, ap, ◌∙◌}
-use mathlib.Core.List.{List}
-use Prim.Native.Nat.{ℕ, ◌+◌, ◌*◌, ◌-◌, ◌/◌, ◌<◌}
-use native.Mathlib.Omega.{arith}
-use native.Mathlib.Nat.{sub-zero}
-use lib.ListN.{drop, length}
-use lib.Dec.{eqb}
-use Rattle.charts.specs.declared.Action.{Action}
+use Rattle.std.proofs.Common.{◌≡◌, sym, ap, ap₂, ◌∙◌, Bool, true, false, cond, List, ◌++◌, ◌∷◌, ℕ, ◌+◌, ◌/◌, ◌<◌, ◌≤◌, suc, take, drop, length, eqb, arith, Result, Ok, Err}
+use Rattle.std.specs.Result.{is_ok}
+use Rattle.std.specs.Slice.Iter.{chunks_exact_rest, chunks_exact_size}
+use Rattle.std.proofs.Math.Seq.{drop-append_seam, take-append_seam}
+use Rattle.std.proofs.Math.ListN.{length-append}
+use Rattle.charts.specs.declared.Refusal.{Refusal}
+use Rattle.charts.specs.declared.Report.{Report}
 use Rattle.charts.specs.declared.Bus.{Bus}
 use Rattle.charts.specs.declared.Played.{Played}
-use Rattle.charts.specs.Step.{Result, step, after}
+use Rattle.charts.specs.Numbers.{err_number}
+use Rattle.charts.specs.Step as Step
+use Rattle.charts.specs.Step.{step, after}
 use Rattle.charts.specs.View.{view, seen}
 use Rattle.charts.specs.Demand.{one, accepted_of}
-use Rattle.charts.specs.Layout.{action_at, actions_of}
-use Rattle.record.proofs.Walk.{tail_part, records_more, records_none}
+use Rattle.charts.specs.Layout.{action_at}
+use Rattle.charts.proofs.Steps.{refuses_it}
+use Rattle.record.proofs.Round.{action_front}
+use Rattle.replay.specs.Replay.{records_in}
 use Rattle.replay.proofs.play_on.Goals as goal
+use Rattle.replay.proofs.play_on.Goals.{then-is_ok, else-is_ok}
+
+-- the first record of a list, and those after it
+first : (s x t : List ℕ) → s ≡ x ++ t → length x ≡ 16 → records_in s ≡ action_at x ∷ records_in t
+first s x t e h =
+    let n : length s ≡ 16 + length t = ap length e ∙ length-append x t ∙ ap (λ k. k + length t) h in
+    let more : length s / 16 ≡ suc (length t / 16) = omega arith in
+    let front : take 16 s ≡ x = ap₂ take (sym h) e ∙ take-append_seam x t in
+    let back : drop 16 s ≡ t = ap₂ drop (sym h) e ∙ drop-append_seam x t in
+    let at : action_at s ≡ action_at x = sym (action_front 16 s (omega arith) (omega arith)) ∙ ap action_at front in
+    rw (more, at, back)
 
 -- one record played: the rest from the bus after it
-played-turn : (b : Bus) (p : Played) (s : List ℕ) (count k : ℕ) → k < count → seen p ≡ step (view b) (action_at (drop (16 * k) s)) →
-    (after (view p.bus) (actions_of (count - (k + 1)) (drop (16 * (k + 1)) s)) ≡ after (view b) (actions_of (count - k) (drop (16 * k) s)))
-    × (accepted_of (view b) (actions_of (count - k) (drop (16 * k) s)) ≡ one (eqb p.number 0) + accepted_of (view p.bus) (actions_of (count - (k + 1)) (drop (16 * (k + 1)) s)))
-played-turn b p s count k h e =
-    let more = records_more s count k h in (
-      ap (λ (r : Result). after r.state rest) e ∙ sym (ap (after (view b)) more),
-      ap (accepted_of (view b)) more ∙ sym (ap (λ (r : Result). one (eqb r.number 0) + accepted_of r.state rest) e),
+turn : (b : Bus) (p : Played) (s x t : List ℕ) → s ≡ x ++ t → length x ≡ 16 → seen p ≡ step (view b) (action_at x) →
+    (after (view p.bus) (records_in t) ≡ after (view b) (records_in s))
+    × (accepted_of (view b) (records_in s) ≡ one (eqb (err_number p.report) 0) + accepted_of (view p.bus) (records_in t))
+turn b p s x t e h q =
+    let f = first s x t e h in (
+      ap (λ (r : Step.Result). after r.state (records_in t)) q ∙ sym (ap (after (view b)) f),
+      ap (accepted_of (view b)) f ∙ sym (ap (λ (r : Step.Result). one (eqb r.number 0) + accepted_of r.state (records_in t)) q),
     )
-  where
-    rest : List Action
-    rest = actions_of (count - (k + 1)) (drop (16 * (k + 1)) s)
 
-pub loop-k-init : goal.loop-k-init
-loop-k-init c = (omega arith, omega arith, omega arith, rw sub-zero, rw sub-zero (omega arith))
+-- a record is accepted that is answered with a report
+one_ok : (r : Result Report Refusal) (o : Bool) → o ≡ is_ok r → one (eqb (err_number r) 0) ≡ cond o 1 0
+one_ok (Ok x) o e = rw e
+one_ok (Err k) o e = rw (e, refuses_it k)
 
-pub loop-k-preserved : goal.loop-k-preserved
-loop-k-preserved c = let a = rw tail_part at c.read_action-action.ensures in
-    let turn = played-turn c.loop-k.bus c.step-played.result c.args.records.now (length c.args.records.now / 16) c.loop-k.k c.loop-k-test.true
-    (c.step-played.ensures ∙ ap (step (view c.loop-k.bus)) a) in
-    (omega arith, omega arith, omega (arith, c.one_if_accepted-accepted.ensures.upper_bound), turn.0 ∙ c.loop-k.invariant.3, omega (arith, turn.1, c.loop-k.invariant.4, c.one_if_accepted-accepted.ensures.value))
+one_le : (b : Bool) → one b ≤ 1
+one_le true = omega arith
+one_le false = omega arith
+
+pub loop-record-init : goal.loop-record-init
+loop-record-init c =
+    let gives = c.into_iter-record-iterator.ensures.into_iter_gives in
+    let all : chunks_exact_rest c.into_iter-record-iterator.result ≡ c.args.records.now = ap chunks_exact_rest gives ∙ c.chunks_exact-record-items.ensures.rest in
+    record { size = ap chunks_exact_size gives ∙ c.chunks_exact-record-items.ensures.size; room = rw all (omega arith); played = rw all; counted = rw all (omega arith) }
+
+pub overflow_add-accepted : goal.overflow_add-accepted
+overflow_add-accepted c =
+    let cut = c.in-Some.ensures.steps.1 in
+    let size = ap length cut.0 ∙ length-append c.in-Some.record.now (chunks_exact_rest c.next.new.self) in
+    let some : 0 < length (chunks_exact_rest c.loop-record.record-iterator) = omega (arith, cut.1, c.loop-record.invariant.size, size) in
+    omega (arith, some, c.loop-record.invariant.room)
+
+pub loop-record-preserved : goal.loop-record-preserved
+loop-record-preserved c =
+    let old = c.loop-record.invariant in
+    let steps = c.in-Some.ensures.steps in
+    let rest = chunks_exact_rest c.next.new.self in
+    let whole : length c.in-Some.record.now ≡ 16 = steps.1.1 ∙ old.size in
+    let size = ap length steps.1.0 ∙ length-append c.in-Some.record.now rest in
+    let then = turn c.loop-record.bus c.step-played.result (chunks_exact_rest c.loop-record.record-iterator) c.in-Some.record.now rest steps.1.0 whole (c.step-played.ensures ∙ ap (step (view c.loop-record.bus)) c.read_action.ensures) in
+    let ok = one_ok c.step-played.result.report c.is_ok.result c.is_ok.ensures.value in
+    let more : c.if-is_ok.accepted ≡ c.loop-record.accepted + one (eqb (err_number c.step-played.result.report) 0) =
+    elim c.if-is_ok.branch [ then-is_ok w ↦ rw (ok, w.if-is_ok.true) w.accepted-is | else-is_ok w ↦ rw (ok, w.if-is_ok.false) (omega (arith, w.accepted-is)) ] in
+    let most : one (eqb (err_number c.step-played.result.report) 0) ≤ 1 = one_le (eqb (err_number c.step-played.result.report) 0) in
+    record { size = steps.0 ∙ old.size; room = omega (arith, more, most, whole, size, old.room); played = then.0 ∙ old.played; counted = omega (arith, more, then.1, old.counted) }
 
 pub returns : goal.returns
-returns c = let none = records_none c.args.records.now (length c.args.records.now / 16) c.loop-k.k c.loop-k-test.false in
-    let e : view c.loop-k.bus ≡ after (view c.args.start) (actions_of (length c.args.records.now / 16) c.args.records.now) = sym (ap (after (view c.loop-k.bus)) none) ∙ c.loop-k.invariant.3 in
-    let q : c.loop-k.accepted ≡ accepted_of (view c.args.start) (actions_of (length c.args.records.now / 16) c.args.records.now) =
-    omega (arith, c.loop-k.invariant.4, ap (accepted_of (view c.loop-k.bus)) none) in
-    λ t. record { number = c.args.number; accepted = q t; state = e t }
+returns c =
+    let old = c.loop-record.invariant in
+    let steps = c.in-None.ensures.steps in
+    let none : length (chunks_exact_rest c.loop-record.record-iterator) / 16 ≡ 0 = omega (arith, steps.1.0, old.size) in
+    let after_all : view c.loop-record.bus ≡ after (view c.args.start) (records_in c.args.records.now) = rw none at old.played in
+    let counted : c.loop-record.accepted + 0 ≡ accepted_of (view c.args.start) (records_in c.args.records.now) = rw none at old.counted in
+    let accepted : c.loop-record.accepted ≡ accepted_of (view c.args.start) (records_in c.args.records.now) = omega arith in
+    rw (after_all, accepted)

@@ -1,17 +1,16 @@
 -- What is left to play, from the bus as it is, comes to what the whole list comes to.
-use mathlib.Core.Path.{◌≡◌}
-use Prim.Native.Nat.{◌+◌, ◌*◌, ◌-◌, ◌≤◌}
-use lib.ListN.{drop, length}
+use Rattle.std.proofs.Common.{◌≡◌, ◌+◌, ◌≤◌, length}
+use Rattle.std.specs.Slice.Iter.{chunks_exact_rest, chunks_exact_size}
 use Rattle.charts.specs.Step.{after}
 use Rattle.charts.specs.View.{view}
 use Rattle.charts.specs.Demand.{accepted_of}
-use Rattle.charts.specs.Layout.{actions_of}
+use Rattle.replay.specs.Replay.{records_in}
 use Rattle.replay.proofs.play_on.Given as goal
 
-abbrev pub invariant-loop-k : goal.invariant-loop-k
-invariant-loop-k l = (l.k ≤ l.count) × (16 * l.count ≤ length l.records) × (l.accepted ≤ l.k)
-    × (after (view l.bus) (actions_of (l.count - l.k) (drop (16 * l.k) l.records)) ≡ after (view l.initial.bus) (actions_of l.count l.records))
-    × (l.accepted + accepted_of (view l.bus) (actions_of (l.count - l.k) (drop (16 * l.k) l.records)) ≡ accepted_of (view l.initial.bus) (actions_of l.count l.records))
-
-abbrev pub decreases-loop-k : goal.decreases-loop-k
-decreases-loop-k l = l.count - l.k
+abbrev pub invariant-loop-record : goal.invariant-loop-record
+invariant-loop-record l = record {
+  size : chunks_exact_size l.record-iterator ≡ 16;
+  room : l.accepted + length (chunks_exact_rest l.record-iterator) ≤ length l.records;
+  played : after (view l.bus) (records_in (chunks_exact_rest l.record-iterator)) ≡ after (view l.initial.bus) (records_in l.records);
+  counted : l.accepted + accepted_of (view l.bus) (records_in (chunks_exact_rest l.record-iterator)) ≡ accepted_of (view l.initial.bus) (records_in l.records);
+}
