@@ -1,124 +1,107 @@
-// Texts on standard input, line by line, and what is wrong in them on standard error: for `compose` and `trial`.
+// Texts on standard input, line by line, and what is wrong in them on standard error: for `compose`, `find` and `trial`.
 #![tactic(auto)]
 
-ghost use Rattle.std.specs.Prelude.{◌≡◌, ◌≤◌, length};
+ghost use Rattle.std.specs.Prelude.{◌≡◌, ◌≤◌, IfOk, IfSome, length};
 
 use faults::Fault;
 use notation::Text;
 use std::io::{Read, Write};
-use stream::{Input, Place};
+use stream::{Failure, ReadError};
 
-// A text that is read: the bytes of the buffer that are not taken, how many bytes its line has and whether there is one, whether the input has ended, and
-// whether no read failed.
-#[derive(Clone, Copy)]
-pub struct Lines {
-    pub place: Place,
+// A text that is read by way of a buffer: where the bytes that are not taken begin and end there, and whether the input has ended.
+#[derive(Drop)]
+pub struct Lines<'a, R> {
+    reader: R,
+    buf: &'a mut [u8],
+    at: usize,
+    end: usize,
+    ended: bool,
+    ghost within: { (at ≤ end) × (end ≤ length buf.now) },
+}
+
+impl<'a, R: Read + Drop> Lines<'a, R> {
+    // Reads the first part of a text, in which a byte order mark counts for nothing.
+    pub fn open(mut reader: R, buf: &'a mut [u8]) -> Result<Lines<'a, R>, ReadError> {
+        let end = stream::fill(&mut reader, buf)?;
+        Ok(Lines {
+            at: notation::mark_size(&buf[..end]),
+            end,
+            ended: end < buf.len(),
+            reader,
+            buf,
+        })
+    }
+
+    // The next part of the text.
+    fn read_on(&mut self) -> Result<(), ReadError> {
+        let end = stream::fill(&mut self.reader, self.buf)?;
+        self.at = 0;
+        self.end = end;
+        self.ended = end < self.buf.len();
+        Ok(())
+    }
+
+    // The next line, without its newline, stands at the start of `line`; the last one may lack its newline. Answers its length, or None after the last one.
+    // Of a longer line than `line` has room for its start stands there. A proved loop has to end, so it has as many turns as no text uses up.
+    pub fn next_line(&mut self, line: &mut [u8]) -> Result<Option<usize>, ReadError>
+        ensures { IfOk result (λ len. IfSome len (λ len. len ≤ length line.new)) }
+    {
+        let mut len = 0;
+        for _ in 0..u64::MAX {
+            let taken = stream::take_line(&self.buf[self.at..self.end], line, len);
+            len = taken.len;
+            if let Some(rest) = taken.rest {
+                self.at = self.end - rest.len();
+                return Ok(Some(len));
+            }
+            self.at = self.end;
+            if self.ended {
+                return Ok((0 < len).then_some(len));
+            }
+            self.read_on()?;
+        }
+        Ok(None)
+    }
+}
+
+// What has taken the lines of a text, and how long the line is that was read last.
+#[derive(Drop)]
+pub struct Taken<S> {
+    pub taker: S,
     pub len: usize,
-    pub found: bool,
-    pub ended: bool,
-    pub whole: bool,
 }
 
-// Where the lines of a text begin: a byte order mark counts for nothing.
-fn start_in(buf: &[u8], count: usize) -> usize
-    requires { count ≤ length buf.now }
+// Feeds the lines of a text to what takes them, until it is over; its last line stands at the start of `line`.
+pub fn read_text<
+    R: Read + Drop,
+    S: Drop,
+    F: FnMut(S, &[u8]) -> Result<S, Failure>,
+    O: Fn(&S) -> bool,
+>(reader: R, line: &mut [u8], start: S, mut feed: F, is_over: O) -> Result<Taken<S>, Failure>
+    requires feeds { F.IsAlwaysCallable feed }
+    requires ends { O.IsAlwaysCallable is_over }
+    ensures { IfOk result (λ taken. taken.len ≤ length line.new) }
 {
-    notation::mark_size(&buf[..count])
-}
-
-// Reads the first part of a text.
-pub fn open<R: Read>(from: &mut Input<R>, buf: &mut [u8]) -> Lines {
-    let filled = stream::fill(from, buf);
-    let count = filled.count;
-    Lines {
-        place: Place {
-            at: start_in(buf, count),
-            end: count,
-        },
-        len: 0,
-        found: false,
-        ended: count < buf.len(),
-        whole: filled.whole,
-    }
-}
-
-// The next part of the text.
-fn read_on<R: Read>(from: &mut Input<R>, t: Lines, buf: &mut [u8]) -> Lines
-    ensures { result.len ≡ t.len }
-{
-    let filled = stream::fill(from, buf);
-    let count = filled.count;
-    Lines {
-        place: Place { at: 0, end: count },
-        len: t.len,
-        found: false,
-        ended: count < buf.len(),
-        whole: filled.whole,
-    }
-}
-
-fn with_line(t: Lines, found: bool) -> Lines
-    ensures { result.len ≡ t.len }
-{
-    let place = t.place;
-    Lines {
-        place: place,
-        len: t.len,
-        found: found,
-        ended: t.ended,
-        whole: t.whole,
-    }
-}
-
-// The next line, without its newline, stands at the start of `line`; the last one may lack its newline. Of a longer line than `line` has room for its start stands there.
-// A proved loop has to end, so it has as many turns as no text uses up.
-pub fn next_line<R: Read>(from: &mut Input<R>, t: Lines, buf: &mut [u8], line: &mut [u8]) -> Lines
-    ensures { result.len ≤ length line.new }
-{
-    let mut s = t;
-    s.len = 0;
+    let mut buf = [0u8; 65536];
+    let mut lines = Lines::open(reader, &mut buf)?;
+    let mut taker = start;
     for _ in 0..u64::MAX {
-        if !s.whole {
-            return with_line(s, false);
+        let Some(len) = lines.next_line(line)? else {
+            break;
+        };
+        taker = feed(taker, &line[..len])?;
+        if is_over(&taker) {
+            return Ok(Taken { taker, len });
         }
-        let place = s.place;
-        let taken = stream::take_line(buf, place, line, s.len);
-        s.len = taken.len;
-        let next = taken.place;
-        s.place = next;
-        if taken.ended {
-            return with_line(s, true);
-        }
-        if s.ended {
-            return with_line(s, 0 < s.len);
-        }
-        s = read_on(from, s, buf);
     }
-    with_line(s, false)
-}
-
-// A fault with its cause, put into a buffer and written.
-fn put_cause<W: Write>(
-    err: &mut W,
-    sort: Text,
-    n: u8,
-    number: u64,
-    fault: Fault,
-    line: &[u8],
-    text: &mut [u8],
-)
-    requires { length text.old ≡ 512 }
-{
-    let b = causes::blame(sort, n, line, fault);
-    let cause = b.cause;
-    let from = b.from;
-    let to = b.to;
-    let end = faults::put_fault(text, 0, number, fault, cause, &line[from..to]);
-    let _ = err.write_all(&text[..end]);
+    Ok(Taken { taker, len: 0 })
 }
 
 // What is wrong in a line with that number, with its cause, written where errors are told. Where they cannot be told nothing is left to do.
 pub fn report<W: Write>(err: &mut W, sort: Text, n: u8, number: u64, fault: Fault, line: &[u8]) {
+    let blamed = causes::blame(sort, n, line, fault);
     let mut text = [0u8; 512];
-    put_cause(err, sort, n, number, fault, line, &mut text);
+    let word = &line[blamed.from..blamed.to];
+    let end = faults::put_fault(&mut text, 0, number, fault, blamed.cause, word);
+    let _ = err.write_all(&text[..end]);
 }
