@@ -1,11 +1,8 @@
 -- The laws of the loop over a block's actions, for the player's turns. Assumes nothing.
 use mathlib.Core.Path.{◌≡◌}
-use mathlib.Core.Bool.{Bool, true, false}
+use mathlib.Core.Bool.{true, false}
 use mathlib.Core.List.{List}
 use Prim.Native.Nat.{ℕ}
-use Rattle.charts.specs.declared.Bus.{Bus}
-use Rattle.charts.specs.declared.Node.{Node}
-use Rattle.charts.specs.declared.Phase.{Phase}
 use Rattle.charts.specs.Step.{Result, is_accepted}
 use Rattle.transcript.specs.Lines.{line_of, refused_line}
 use Rattle.transcript.specs.Room.{Puts}
@@ -15,10 +12,6 @@ use Rattle.player.specs.Printed.{turn}
 use Rattle.player.specs.Feeding.{Part, turn_of}
 pub use Rattle.files.proofs.Pieces.{left, left_all, left_none, left_more}
 pub use Rattle.walk.proofs.Loop.{Same, at_start, ends}
-
--- the record of the loop's arrays and of the bus's own mark
-abbrev pub bus_of : ℕ → Phase → List Node → List Bool → List Bool → List Bool → List Bool → Bool → Bus
-bus_of n phase nodes won pending holder misled concatenated = record { n = n; phase = phase; nodes = nodes; won = won; pending = pending; holder = holder; misled = misled; concatenated = concatenated }
 
 module _ (i kind : ℕ) (r : Result) (later : Part) {start buf after : List ℕ} {at end next : ℕ} {whole : Part} (same : Same start at whole buf end (turn_of i kind r later)) where
   pub go_on : is_accepted r ≡ true → Puts buf end (line_of i kind r.report) next after → Same start at whole after next later
