@@ -174,10 +174,7 @@ fn nowhere(cause: Cause) -> Blamed
 fn number_of(name: Option<Name>) -> u8
     ensures { result ≡ word_number name }
 {
-    match name {
-        Some(k) => k.number(),
-        None => 0,
-    }
+    name.map_or(0, |k| k.number())
 }
 
 // The name of the last word before a place.
@@ -238,15 +235,15 @@ fn blame_in(text: Text, n: u8, line: &[u8], fault: Fault) -> Blamed
 {
     match fault {
         Fault::UnknownWord | Fault::ExtraField => at_span(Cause::Quoted, word_in(text, line)),
-        Fault::NotNumber => {
+        Fault::NotNumber | Fault::TooLarge => {
             let w = word_in(text, line);
             let name = named_at(text, line, w.from);
-            at_span(Cause::Field(name, place_at(text, line, w.from)), w)
-        }
-        Fault::TooLarge => {
-            let w = word_in(text, line);
-            let name = named_at(text, line, w.from);
-            at_span(Cause::Large(name, place_at(text, line, w.from)), w)
+            let place = place_at(text, line, w.from);
+            if fault == Fault::TooLarge {
+                at_span(Cause::Large(name, place), w)
+            } else {
+                at_span(Cause::Field(name, place), w)
+            }
         }
         Fault::MissingField => {
             let name = named_at(text, line, line.len());

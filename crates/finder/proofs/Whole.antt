@@ -11,7 +11,8 @@ use Rattle.charts.specs.declared.Question.{Question}
 use Rattle.charts.specs.Numbers as N
 use Rattle.charts.specs.State.{State, fresh}
 use Rattle.charts.specs.Valid.{is_size}
-use Rattle.charts.specs.Step.{Result, refuses, step, after, results, is_accepted}
+use Rattle.charts.specs.Step as Step
+use Rattle.charts.specs.Step.{refuses, step, after, results, is_accepted}
 use Rattle.charts.specs.Routes.{all_accepted, route_number}
 use Rattle.charts.proofs.Tools.{never, clash, and-true, both}
 use Rattle.charts.proofs.Steps.{step_n}
@@ -21,10 +22,9 @@ use Rattle.faults.specs.declared.Fault.TheVariants as F
 use Rattle.notation.specs.declared.Text.TheVariants as T
 use Rattle.notation.specs.declared.Line.{Line}
 use Rattle.notation.specs.declared.Line.TheVariants as L
-use Rattle.notation.specs.declared.Stage.{Stage}
-use Rattle.notation.specs.declared.Stage.TheVariants.{Going, Stopped}
+use Rattle.std.proofs.Common.{Option, None, Some, is_some, Result, Ok, Err}
 use Rattle.notation.specs.Grammar.{line_of}
-use Rattle.notation.specs.Reading.{is_stopped, counted, nodes_stage}
+use Rattle.notation.specs.Reading.{counted, nodes_stage, refusal_at}
 use Rattle.notation.specs.Meaning.{lines_of, unmarked}
 use Rattle.notation.proofs.Readers.{sized_nodes}
 use Rattle.notation.proofs.Questions.{as_in_run}
@@ -51,7 +51,7 @@ one_more l s a p e =
 
 -- an action as often as its line says, accepted each time
 module _ (k : ℕ) (l : List Action) (s : State) (a : Action) (p : PlayedRun l s) where
-  abbrev rest : Result
+  abbrev rest : Step.Result
   rest = repeated k (step s a).state a
 
   first_of : (PlayedRun (l ++ (a ∷ [])) (step s a).state → is_accepted rest ≡ true → PlayedRun ((l ++ (a ∷ [])) ++ replicate k a) rest.state)
@@ -84,10 +84,10 @@ record Reads (ns : List ℕ) (l : List Action) (qs : List (Question × ℕ)) (r 
   asks : r.asked ≡ true → (qs ≡ (r.question, r.depth) ∷ []) × (route_number r.state r.question r.depth ≡ N.accepted)
 
 abbrev Goes : List ℕ → List Action → List (Question × ℕ) → Reader → Type 0
-Goes ns l qs r = r.stage ≡ Going → Reads ns l qs r
+Goes ns l qs r = r.fault ≡ None → Reads ns l qs r
 
-halts : {A : Type 0} {f : Fault} → Stopped f ≡ Going → A
-halts e = absurd (true≢false (ap is_stopped e))
+halts : {A : Type 0} {f : Fault} → ◌≡◌ {A = Option Fault} (Some f) None → A
+halts e = absurd (true≢false (ap is_some e))
 
 -- a size is not 0
 not_none : {A : Type 0} (n : ℕ) → is_size n ≡ true → eqb n 0 ≡ true → A
@@ -95,7 +95,7 @@ not_none n e z = never (ap is_size (sym (eqb-true n 0 z)) ∙ e)
 
 module _ (ns : List ℕ) (l : List Action) (qs : List (Question × ℕ)) (r : Reader) (v : Reads ns l qs r) where
   -- after a line that is taken; one that says nothing
-  abbrev Then : Line → Reader → Type 0
+  abbrev Then : Result Line Fault → Reader → Type 0
   Then x r = Goes (ns ++ nodes_in x) (l ++ acts_in x) (qs ++ asks_in x) r
 
   same : Reads (ns ++ []) (l ++ []) (qs ++ []) r
@@ -103,12 +103,12 @@ module _ (ns : List ℕ) (l : List Action) (qs : List (Question × ℕ)) (r : Re
 
   -- the lines of each sort before the line `find`
   module _ (before : r.asked ≡ false) where
-    nodes_go : (m : ℕ) → Then (L.Nodes m) (nodes_taken r m)
+    nodes_go : (m : ℕ) → Then (Ok (L.Nodes m)) (nodes_taken r m)
     unfolding nodes_taken
     nodes_go m = go (nodes_stage r.state.n m) refl
       where
-        go : (x : Stage) → nodes_stage r.state.n m ≡ x → Then (L.Nodes m) (goes_on r (on_bus r (fresh m)) x)
-        go Going q e =
+        go : (x : Result Unit Fault) → nodes_stage r.state.n m ≡ x → Then (Ok (L.Nodes m)) (goes_on r (on_bus r (fresh m)) x)
+        go (Ok u) q e =
             let first = sized_nodes r.state.n m q in
             let empty = v.none first.0 in
             let run : PlayedRun (l ++ []) (fresh m) = rw empty.1 (record { size = first.1; state = refl; accepted = refl }) in
@@ -118,14 +118,14 @@ module _ (ns : List ℕ) (l : List Action) (qs : List (Question × ℕ)) (r : Re
               unasked = same.unasked;
               asks = λ z. clash r.asked z before;
             }
-        go (Stopped f) q e = halts e
+        go (Err f) q e = halts e
 
-    action_goes : (a : Action) (k : ℕ) → Then (L.Acts a k) (action_taken r a k)
+    action_goes : (a : Action) (k : ℕ) → Then (Ok (L.Acts a k)) (action_taken r a k)
     unfolding action_taken
     action_goes a k = go (eqb r.state.n 0) refl
       where
         plays : (ns ≡ r.state.n ∷ []) × PlayedRun l r.state → (b : Bool) → is_accepted (repeated k r.state a) ≡ b
-            → Then (L.Acts a k) (cond b (on_bus r (repeated k r.state a).state) (stopped r (F.Refused (repeated k r.state a).number)))
+            → Then (Ok (L.Acts a k)) (cond b (on_bus r (repeated k r.state a).state) (stopped r (F.Refused (refusal_at (repeated k r.state a).number))))
         plays p true q e =
             let more = repeats k l r.state a p.1 q in
             let one = append-nil ns ∙ p.0 ∙ ap (λ n. n ∷ []) (sym (repeats_n k r.state a)) in
@@ -137,16 +137,16 @@ module _ (ns : List ℕ) (l : List Action) (qs : List (Question × ℕ)) (r : Re
             }
         plays p false q e = halts e
 
-        go : (b : Bool) → eqb r.state.n 0 ≡ b → Then (L.Acts a k) (cond b (stopped r F.NodesMissing) (played_by r (repeated k r.state a)))
+        go : (b : Bool) → eqb r.state.n 0 ≡ b → Then (Ok (L.Acts a k)) (cond b (stopped r F.NodesMissing) (played_by r (repeated k r.state a)))
         go true q e = halts e
         go false q e = plays (v.played q) (is_accepted (repeated k r.state a)) refl e
 
-    question_goes : (q : Question) (d : ℕ) → Then (L.Finds q d) (question_taken r q d)
+    question_goes : (q : Question) (d : ℕ) → Then (Ok (L.Finds q d)) (question_taken r q d)
     unfolding question_taken
     question_goes q d = go (eqb r.state.n 0) (eqb (route_number r.state q d) N.accepted) refl
       where
         go : (b c : Bool) → eqb (route_number r.state q d) N.accepted ≡ c
-            → Then (L.Finds q d) (cond b (stopped r F.NodesMissing) (cond c (asking r q d) (stopped r (F.Refused (route_number r.state q d)))))
+            → Then (Ok (L.Finds q d)) (cond b (stopped r F.NodesMissing) (cond c (asking r q d) (stopped r (F.Refused (refusal_at (route_number r.state q d))))))
         go true c h e = halts e
         go false false h e = halts e
         go false true h e =
@@ -157,7 +157,7 @@ module _ (ns : List ℕ) (l : List Action) (qs : List (Question × ℕ)) (r : Re
               asks = λ z. (ap (λ x. x ++ ((q, d) ∷ [])) (v.unasked before), eqb-true (route_number r.state q d) N.accepted h);
             }
 
-    statement_goes : (x : Line) → Then x (statement_taken r x)
+    statement_goes : (x : Line) → Then (Ok x) (statement_taken r x)
     unfolding statement_taken
     statement_goes L.Blank e = same
     statement_goes (L.Nodes m) e = nodes_go m e
@@ -165,10 +165,9 @@ module _ (ns : List ℕ) (l : List Action) (qs : List (Question × ℕ)) (r : Re
     statement_goes (L.Actions k) e = halts e
     statement_goes (L.User i u) e = halts e
     statement_goes (L.Finds q d) e = question_goes q d e
-    statement_goes (L.Wrong f) e = halts e
 
   -- "Only blank lines and comments may follow the line `find`."
-  follows : (x : Line) → Then x (cond (says x) (stopped r F.AfterQuestion) (statement_taken r x))
+  follows : (x : Line) → Then (Ok x) (cond (says x) (stopped r F.AfterQuestion) (statement_taken r x))
   unfolding statement_taken
   follows L.Blank e = same
   follows (L.Nodes m) e = halts e
@@ -176,27 +175,27 @@ module _ (ns : List ℕ) (l : List Action) (qs : List (Question × ℕ)) (r : Re
   follows (L.Actions k) e = halts e
   follows (L.User i u) e = halts e
   follows (L.Finds q d) e = halts e
-  follows (L.Wrong f) e = halts e
 
-  line_goes : (x : Line) → Then x (line_taken r x)
+  line_goes : (x : Result Line Fault) → Then x (line_taken r x)
   unfolding line_taken
-  line_goes x = go r.asked refl
+  line_goes (Err f) = λ e. halts e
+  line_goes (Ok x) = go r.asked refl
     where
-      go : (b : Bool) → r.asked ≡ b → Then x (cond (b && says x) (stopped r F.AfterQuestion) (statement_taken r x))
+      go : (b : Bool) → r.asked ≡ b → Then (Ok x) (cond (b && says x) (stopped r F.AfterQuestion) (statement_taken r x))
       go false q e = statement_goes q x e
       go true q e = follows x e
 
   on_line_reads : (i : ℕ) → Reads ns l qs (on_line r i)
   on_line_reads i = record { none = v.none; played = v.played; unasked = v.unasked; asks = v.asks }
 
-feed_goes : (x : Line) (t : List ℕ) (ns : List ℕ) (l : List Action) (qs : List (Question × ℕ)) (r : Reader) → line_of T.Question t ≡ x → Goes ns l qs r
+feed_goes : (x : Result Line Fault) (t : List ℕ) (ns : List ℕ) (l : List Action) (qs : List (Question × ℕ)) (r : Reader) → line_of T.Question t ≡ x → Goes ns l qs r
     → Goes (ns ++ nodes_in x) (l ++ acts_in x) (qs ++ asks_in x) (feed_of r t)
 unfolding feed_of
-feed_goes x t ns l qs r o v = rw o (go r.stage refl)
+feed_goes x t ns l qs r o v = rw o (go r.fault refl)
   where
-    go : (y : Stage) → r.stage ≡ y → Goes (ns ++ nodes_in x) (l ++ acts_in x) (qs ++ asks_in x) (cond (is_stopped y) r (line_taken (on_line r (counted r.line)) x))
-    go Going q e = line_goes ns l qs (on_line r (counted r.line)) (on_line_reads ns l qs r (v q) (counted r.line)) x e
-    go (Stopped f) q e = halts (sym q ∙ e)
+    go : (y : Option Fault) → r.fault ≡ y → Goes (ns ++ nodes_in x) (l ++ acts_in x) (qs ++ asks_in x) (cond (is_some y) r (line_taken (on_line r (counted r.line)) x))
+    go None q e = line_goes ns l qs (on_line r (counted r.line)) (on_line_reads ns l qs r (v q) (counted r.line)) x e
+    go (Some f) q e = halts (sym q ∙ e)
 
 -- the lines of a text one after the other
 all_go : (ts : List (List ℕ)) (ns : List ℕ) (l : List Action) (qs : List (Question × ℕ)) (r : Reader) → Goes ns l qs r
@@ -213,23 +212,23 @@ record Ends (ns : List ℕ) (l : List Action) (qs : List (Question × ℕ)) (r :
   asked : r.asked ≡ true
   question : (qs ≡ (r.question, r.depth) ∷ []) × (route_number r.state r.question r.depth ≡ N.accepted)
 
-finish_ends : (ns : List ℕ) (l : List Action) (qs : List (Question × ℕ)) (r : Reader) → Goes ns l qs r → (finish_of r).stage ≡ Going → Ends ns l qs (finish_of r)
+finish_ends : (ns : List ℕ) (l : List Action) (qs : List (Question × ℕ)) (r : Reader) → Goes ns l qs r → (finish_of r).fault ≡ None → Ends ns l qs (finish_of r)
 unfolding finish_of
-finish_ends ns l qs r v = go r.stage (eqb r.state.n 0) r.asked refl refl refl
+finish_ends ns l qs r v = go r.fault (eqb r.state.n 0) r.asked refl refl refl
   where
-    finished : (x : Stage) (b c : Bool) → Reader
-    finished x b c = cond (is_stopped x) r (cond b (stopped r F.NodesMissing) (cond c r (stopped r F.NoQuestion)))
+    finished : (x : Option Fault) (b c : Bool) → Reader
+    finished x b c = cond (is_some x) r (cond b (stopped r F.NodesMissing) (cond c r (stopped r F.NoQuestion)))
 
-    go : (x : Stage) (b c : Bool) → r.stage ≡ x → eqb r.state.n 0 ≡ b → r.asked ≡ c → (finished x b c).stage ≡ Going → Ends ns l qs (finished x b c)
-    go (Stopped f) b c q h k e = halts (sym q ∙ e)
-    go Going true c q h k e = halts e
-    go Going false false q h k e = halts e
-    go Going false true q h k e = record { run = (v q).played h; asked = k; question = (v q).asks k }
+    go : (x : Option Fault) (b c : Bool) → r.fault ≡ x → eqb r.state.n 0 ≡ b → r.asked ≡ c → (finished x b c).fault ≡ None → Ends ns l qs (finished x b c)
+    go (Some f) b c q h k e = halts (sym q ∙ e)
+    go None true c q h k e = halts e
+    go None false false q h k e = halts e
+    go None false true q h k e = record { run = (v q).played h; asked = k; question = (v q).asks k }
 
 begins : Goes [] [] [] started
 begins e = record { none = λ z. (refl, refl); played = λ z. absurd (true≢false z); unasked = λ z. refl; asks = λ z. never z }
 
-module _ (text : List ℕ) (e : (read_by text).stage ≡ Going) where
+module _ (text : List ℕ) (e : (read_by text).fault ≡ None) where
   ends : Ends (nodes_of text) (run_of text) (asks_of text) (read_by text)
   unfolding read_by nodes_of run_of asks_of
   ends = finish_ends _ _ _ _ (all_go (lines_of (unmarked text)) [] [] [] started begins) e
@@ -251,6 +250,6 @@ module _ (text : List ℕ) (e : (read_by text).stage ≡ Going) where
   asked_taken = (ends.asked, ends.question.1)
 
 -- lines that do not begin with `find` say what they say in a run
-pub as_run : {A : Type 0} (says : Line → List A) (ts : List (List ℕ)) → NoFind ts → said_from says T.Question ts ≡ said_from says T.Run ts
+pub as_run : {A : Type 0} (says : Result Line Fault → List A) (ts : List (List ℕ)) → NoFind ts → said_from says T.Question ts ≡ said_from says T.Run ts
 as_run says [] h = refl
 as_run says (t ∷ ts) h = ap₂ (λ x l. says x ++ l) (as_in_run t h.0) (as_run says ts h.1)

@@ -1,5 +1,5 @@
 -- What a whole text of a question means: the state of its run, and what is asked of it, or its first fault with the line that has it.
-use Rattle.std.specs.Prelude.{◌≡◌, true, false, List, [], ◌∷◌, ◌++◌, ℕ, eqb, replicate}
+use Rattle.std.specs.Prelude.{◌≡◌, true, false, List, [], ◌∷◌, ◌++◌, ℕ, eqb, replicate, Result, Ok, Err}
 use Rattle.charts.specs.declared.Action.{Action}
 use Rattle.charts.specs.declared.Question.{Question}
 use Rattle.charts.specs.State.{State, fresh}
@@ -10,7 +10,9 @@ use Rattle.notation.specs.declared.Text.{Text}
 use Rattle.notation.specs.declared.Text.TheVariants as T
 use Rattle.notation.specs.declared.Line.{Line}
 use Rattle.notation.specs.declared.Line.TheVariants as L
-use Rattle.words.specs.Words as W
+use Rattle.faults.specs.declared.Fault.{Fault}
+use Rattle.words.specs.declared.Name.TheVariants as V
+use Rattle.words.specs.Names.{name_number, word_number}
 use Rattle.words.specs.Words.{kind_of}
 use Rattle.notation.specs.Grammar.{line_of}
 use Rattle.notation.specs.Meaning.{lines_of, unmarked}
@@ -25,35 +27,35 @@ unfoldable pub read_by : List ℕ → Reader
 read_by text = finish_of (fed_from (lines_of (unmarked text)) started)
 
 -- what a line says: the number of nodes, the actions ("`pass * 6` is six lines `pass`"), the question with its depth
-abbrev pub nodes_in : Line → List ℕ
-nodes_in L.Blank = []
-nodes_in (L.Nodes m) = m ∷ []
-nodes_in (L.Acts a k) = []
-nodes_in (L.Actions k) = []
-nodes_in (L.User i u) = []
-nodes_in (L.Finds q d) = []
-nodes_in (L.Wrong f) = []
+abbrev pub nodes_in : Result Line Fault → List ℕ
+nodes_in (Ok L.Blank) = []
+nodes_in (Ok (L.Nodes m)) = m ∷ []
+nodes_in (Ok (L.Acts a k)) = []
+nodes_in (Ok (L.Actions k)) = []
+nodes_in (Ok (L.User i u)) = []
+nodes_in (Ok (L.Finds q d)) = []
+nodes_in (Err f) = []
 
-abbrev pub acts_in : Line → List Action
-acts_in L.Blank = []
-acts_in (L.Nodes m) = []
-acts_in (L.Acts a k) = replicate k a
-acts_in (L.Actions k) = []
-acts_in (L.User i u) = []
-acts_in (L.Finds q d) = []
-acts_in (L.Wrong f) = []
+abbrev pub acts_in : Result Line Fault → List Action
+acts_in (Ok L.Blank) = []
+acts_in (Ok (L.Nodes m)) = []
+acts_in (Ok (L.Acts a k)) = replicate k a
+acts_in (Ok (L.Actions k)) = []
+acts_in (Ok (L.User i u)) = []
+acts_in (Ok (L.Finds q d)) = []
+acts_in (Err f) = []
 
-abbrev pub asks_in : Line → List (Question × ℕ)
-asks_in L.Blank = []
-asks_in (L.Nodes m) = []
-asks_in (L.Acts a k) = []
-asks_in (L.Actions k) = []
-asks_in (L.User i u) = []
-asks_in (L.Finds q d) = (q, d) ∷ []
-asks_in (L.Wrong f) = []
+abbrev pub asks_in : Result Line Fault → List (Question × ℕ)
+asks_in (Ok L.Blank) = []
+asks_in (Ok (L.Nodes m)) = []
+asks_in (Ok (L.Acts a k)) = []
+asks_in (Ok (L.Actions k)) = []
+asks_in (Ok (L.User i u)) = []
+asks_in (Ok (L.Finds q d)) = (q, d) ∷ []
+asks_in (Err f) = []
 
 -- what lines say, as lines of that text
-abbrev pub said_from : {A : Type 0} → (Line → List A) → Text → List (List ℕ) → List A
+abbrev pub said_from : {A : Type 0} → (Result Line Fault → List A) → Text → List (List ℕ) → List A
 said_from says text [] = []
 said_from says text (t ∷ ts) = says (line_of text t) ++ said_from says text ts
 
@@ -76,4 +78,4 @@ pub record PlayedRun (l : List Action) (s : State) : Type 0 where
 -- "A question is a run and then a line that asks for a route": lines none of which begins with `find`
 abbrev pub NoFind : List (List ℕ) → Type 0
 NoFind [] = Unit
-NoFind (t ∷ ts) = (eqb (kind_of t) W.find ≡ false) × NoFind ts
+NoFind (t ∷ ts) = (eqb (word_number (kind_of t)) (name_number V.Find) ≡ false) × NoFind ts

@@ -3,18 +3,18 @@
 
 ghost use Rattle.std.specs.Prelude.{◌≡◌};
 ghost use Rattle.charts.specs.View.{view};
-ghost use Rattle.charts.specs.View as View;
-ghost use Rattle.finder.specs.Reader.{seen, started, stopped, on_line, on_bus, asking, nodes_taken, repeated, played_by, action_taken, question_taken, statement_taken, says, line_taken, feed_of, finish_of};
+ghost use Rattle.finder.specs.Reader.{seen, started, ended, repeats, repeated, nodes_taken, action_taken, question_taken, statement_taken, line_taken, feed_of, finish_of};
 
-use charts::{Action, Bus, Played, Question, Report, Word};
-use deciding::bools::both;
+use charts::{Action, Bus, Question, Refusal, Word};
 use faults::Fault;
-use notation::{Line, Stage, Text};
+use notation::{Line, Text};
 
-// A question between two calls: the line last fed, the bus that the run has left (its n is 0 before the `nodes` line), whether the line `find` was fed, and what it asks.
+// A question between two calls: the fault that has stopped it, the line last fed, the bus that the run has left (its n is 0 before the `nodes` line), whether the line
+// `find` was fed, and what it asks.
+// A flag beside a question and a depth: `finish` refuses a text without the line, so the program that asks has no case for a question that is missing.
 #[derive(Clone, Copy)]
 pub struct Finder {
-    pub stage: Stage,
+    pub fault: Option<Fault>,
     pub line: u64,
     pub bus: Bus,
     pub asked: bool,
@@ -26,194 +26,115 @@ pub struct Finder {
 pub fn start() -> Finder
     ensures { seen result ≡ started }
 {
-    let begun = bus::fresh(0);
-    let bus = begun.bus;
-    let question = Question {
-        word: Word::Won,
-        node: 0,
-    };
     Finder {
-        stage: Stage::Going,
+        fault: None,
         line: 0,
-        bus: bus,
+        bus: bus::fresh(0).bus,
         asked: false,
-        question: question,
+        question: Question {
+            word: Word::Won,
+            node: 0,
+        },
         depth: 0,
     }
 }
 
-fn stop(f: Finder, fault: Fault) -> Finder
-    ensures { seen result ≡ stopped (seen f) fault }
+fn take_nodes(f: &mut Finder, n: u8) -> Result<(), Fault>
+    ensures { ended (seen f.new) result ≡ nodes_taken (seen f.old) n }
 {
-    let bus = f.bus;
-    let question = f.question;
-    Finder {
-        stage: Stage::Stopped(fault),
-        line: f.line,
-        bus: bus,
-        asked: f.asked,
-        question: question,
-        depth: f.depth,
-    }
-}
-
-fn on_line(mut f: Finder, line: u64) -> Finder
-    ensures { seen result ≡ on_line (seen f) line }
-{
-    f.line = line;
-    f
-}
-
-fn on_bus(mut f: Finder, b: Bus) -> Finder
-    ensures { seen result ≡ on_bus (seen f) (view b) }
-{
-    f.bus = b;
-    f
-}
-
-fn nodes_of(f: Finder) -> u8
-    ensures { result ≡ (seen f).state.n }
-{
-    let bus = f.bus;
-    bus.n
-}
-
-fn take_nodes(f: Finder, n: u8) -> Finder
-    ensures { seen result ≡ nodes_taken (seen f) n }
-{
-    let stage = notation::nodes_stage(nodes_of(f), n);
-    if let Stage::Stopped(fault) = stage {
-        return stop(f, fault);
-    }
-    let begun = bus::fresh(n);
-    let bus = begun.bus;
-    on_bus(f, bus)
+    notation::nodes_stage(f.bus.n, n)?;
+    f.bus = bus::fresh(n).bus;
+    Ok(())
 }
 
 // An action, as often as its line says, up to a refusal.
-fn repeat(b: Bus, a: Action, times: u32) -> Played
-    ensures { View.seen result ≡ repeated times (view b) a }
+fn repeat(bus: &mut Bus, a: Action, times: u32) -> Result<(), Refusal>
+    ensures { repeats result (view bus.new) ≡ repeated times (view bus.old) a }
 {
-    let mut bus = b;
-    let mut left = times;
-    while 0 < left {
-        let played = bus::step(bus, a);
-        if played.number != 0 {
-            return played;
-        }
-        let next = played.bus;
-        bus = next;
-        left -= 1;
+    for _ in 0..times {
+        let played = bus::step(*bus, a);
+        played.report?;
+        *bus = played.bus;
     }
-    Played {
-        number: 0,
-        report: Report::Silent,
-        bus: bus,
-    }
+    Ok(())
 }
 
-// The bus that a line's actions left, or the number of their refusal.
-fn take_played(f: Finder, p: Played) -> Finder
-    ensures { seen result ≡ played_by (seen f) (View.seen p) }
+// A line's actions. A refused one leaves the bus as it was before the line.
+fn take_action(f: &mut Finder, a: Action, times: u32) -> Result<(), Fault>
+    ensures { ended (seen f.new) result ≡ action_taken (seen f.old) a times }
 {
-    if p.number != 0 {
-        return stop(f, Fault::Refused(p.number));
+    if f.bus.n == 0 {
+        return Err(Fault::NodesMissing);
     }
-    let bus = p.bus;
-    on_bus(f, bus)
+    let mut bus = f.bus;
+    repeat(&mut bus, a, times).map_err(Fault::Refused)?;
+    f.bus = bus;
+    Ok(())
 }
 
-fn take_action(f: Finder, a: Action, times: u32) -> Finder
-    ensures { seen result ≡ action_taken (seen f) a times }
+fn take_question(f: &mut Finder, question: Question, depth: u8) -> Result<(), Fault>
+    ensures { ended (seen f.new) result ≡ question_taken (seen f.old) question depth }
 {
-    if nodes_of(f) == 0 {
-        return stop(f, Fault::NodesMissing);
+    if f.bus.n == 0 {
+        return Err(Fault::NodesMissing);
     }
-    let bus = f.bus;
-    take_played(f, repeat(bus, a, times))
-}
-
-fn take_question(mut f: Finder, q: Question, depth: u8) -> Finder
-    ensures { seen result ≡ question_taken (seen f) q depth }
-{
-    if nodes_of(f) == 0 {
-        return stop(f, Fault::NodesMissing);
-    }
-    let bus = f.bus;
-    let number = routes::number(bus, q, depth);
-    if number != 0 {
-        return stop(f, Fault::Refused(number));
+    if let Some(refusal) = routes::number(f.bus, question, depth) {
+        return Err(Fault::Refused(refusal));
     }
     f.asked = true;
-    f.question = q;
+    f.question = question;
     f.depth = depth;
-    f
+    Ok(())
 }
 
 // A line of each sort. (No line of a question says what settings say.)
-fn take_statement(f: Finder, said: Line) -> Finder
-    ensures { seen result ≡ statement_taken (seen f) said }
+fn take_statement(f: &mut Finder, said: Line) -> Result<(), Fault>
+    ensures { ended (seen f.new) result ≡ statement_taken (seen f.old) said }
 {
     match said {
-        Line::Blank => f,
+        Line::Blank => Ok(()),
         Line::Nodes(n) => take_nodes(f, n),
-        Line::Acts(a, k) => take_action(f, a, k),
-        Line::Actions(_) => stop(f, Fault::UnknownWord),
-        Line::User(_, _) => stop(f, Fault::UnknownWord),
-        Line::Finds(q, depth) => take_question(f, q, depth),
-        Line::Wrong(fault) => stop(f, fault),
+        Line::Acts(a, times) => take_action(f, a, times),
+        Line::Finds(question, depth) => take_question(f, question, depth),
+        Line::Actions(_) | Line::User(_, _) => Err(Fault::UnknownWord),
     }
 }
 
-// Whether a line says something, and is right by the grammar of the line alone.
-fn says(said: Line) -> bool
-    ensures { result ≡ says said }
+fn take_line(f: &mut Finder, said: Result<Line, Fault>) -> Result<(), Fault>
+    ensures { ended (seen f.new) result ≡ line_taken (seen f.old) said }
 {
-    match said {
-        Line::Blank => false,
-        Line::Nodes(_) => true,
-        Line::Acts(_, _) => true,
-        Line::Actions(_) => true,
-        Line::User(_, _) => true,
-        Line::Finds(_, _) => true,
-        Line::Wrong(_) => false,
-    }
-}
-
-fn take_line(f: Finder, said: Line) -> Finder
-    ensures { seen result ≡ line_taken (seen f) said }
-{
-    if both(f.asked, says(said)) {
-        return stop(f, Fault::AfterQuestion);
+    let said = said?;
+    if f.asked && !matches!(said, Line::Blank) {
+        return Err(Fault::AfterQuestion);
     }
     take_statement(f, said)
 }
 
 // Takes a line of the text, without its newline. A question that has stopped takes none.
-pub fn feed(f: Finder, line: &[u8]) -> Finder
+pub fn feed(mut f: Finder, line: &[u8]) -> Finder
     ensures { seen result ≡ feed_of (seen f) line.now }
 {
-    let stage = f.stage;
-    if notation::is_stopped(stage) {
+    if f.fault.is_some() {
         return f;
     }
-    let said = notation::parse_line(Text::Question, line);
-    take_line(on_line(f, notation::count_line(f.line)), said)
+    f.line = notation::count_line(f.line);
+    if let Err(fault) = take_line(&mut f, notation::parse_line(Text::Question, line)) {
+        f.fault = Some(fault);
+    }
+    f
 }
 
 // The end of the text.
-pub fn finish(f: Finder) -> Finder
+pub fn finish(mut f: Finder) -> Finder
     ensures { seen result ≡ finish_of (seen f) }
 {
-    let stage = f.stage;
-    if notation::is_stopped(stage) {
+    if f.fault.is_some() {
         return f;
     }
-    if nodes_of(f) == 0 {
-        return stop(f, Fault::NodesMissing);
-    }
-    if !f.asked {
-        return stop(f, Fault::NoQuestion);
+    if f.bus.n == 0 {
+        f.fault = Some(Fault::NodesMissing);
+    } else if !f.asked {
+        f.fault = Some(Fault::NoQuestion);
     }
     f
 }
