@@ -39,6 +39,7 @@ pub fn start() -> Finder
     }
 }
 
+#[tactic(auto, using(bus::proofs::ViewLaws::view_n), unfolding(crate::specs::Reader::nodes_taken))]
 fn take_nodes(f: &mut Finder, n: u8) -> Result<(), Fault>
     ensures { ended (seen f.new) result ≡ nodes_taken (seen f.old) n }
 {
@@ -60,6 +61,7 @@ fn repeat(bus: &mut Bus, a: Action, times: u32) -> Result<(), Refusal>
 }
 
 // A line's actions. A refused one leaves the bus as it was before the line.
+#[tactic(auto, using(bus::proofs::ViewLaws::view_n), unfolding(crate::specs::Reader::action_taken))]
 fn take_action(f: &mut Finder, a: Action, times: u32) -> Result<(), Fault>
     ensures { ended (seen f.new) result ≡ action_taken (seen f.old) a times }
 {
@@ -72,6 +74,7 @@ fn take_action(f: &mut Finder, a: Action, times: u32) -> Result<(), Fault>
     Ok(())
 }
 
+#[tactic(auto, using(bus::proofs::ViewLaws::view_n), unfolding(crate::specs::Reader::question_taken))]
 fn take_question(f: &mut Finder, question: Question, depth: u8) -> Result<(), Fault>
     ensures { ended (seen f.new) result ≡ question_taken (seen f.old) question depth }
 {
@@ -88,6 +91,7 @@ fn take_question(f: &mut Finder, question: Question, depth: u8) -> Result<(), Fa
 }
 
 // A line of each sort. (No line of a question says what settings say.)
+#[tactic(auto, unfolding(crate::specs::Reader::statement_taken))]
 fn take_statement(f: &mut Finder, said: Line) -> Result<(), Fault>
     ensures { ended (seen f.new) result ≡ statement_taken (seen f.old) said }
 {
@@ -100,6 +104,7 @@ fn take_statement(f: &mut Finder, said: Line) -> Result<(), Fault>
     }
 }
 
+#[tactic(auto, unfolding(crate::specs::Reader::line_taken))]
 fn take_line(f: &mut Finder, said: Result<Line, Fault>) -> Result<(), Fault>
     ensures { ended (seen f.new) result ≡ line_taken (seen f.old) said }
 {
@@ -111,6 +116,7 @@ fn take_line(f: &mut Finder, said: Result<Line, Fault>) -> Result<(), Fault>
 }
 
 // Takes a line of the text, without its newline. A question that has stopped takes none.
+#[tactic(auto, unfolding(crate::specs::Reader::feed_of))]
 pub fn feed(mut f: Finder, line: &[u8]) -> Finder
     ensures { seen result ≡ feed_of (seen f) line.now }
 {
@@ -125,6 +131,7 @@ pub fn feed(mut f: Finder, line: &[u8]) -> Finder
 }
 
 // The end of the text.
+#[tactic(auto, using(bus::proofs::ViewLaws::view_n), unfolding(crate::specs::Reader::finish_of))]
 pub fn finish(mut f: Finder) -> Finder
     ensures { seen result ≡ finish_of (seen f) }
 {
