@@ -41,9 +41,9 @@ abbrev pub goes_on : Settings → Settings → Result Unit Fault → Settings
 goes_on s t (Ok u) = t
 goes_on s t (Err f) = stopped s f
 
--- the code's answer: the settings that it gives, or s stopped
-abbrev pub ended : Settings → Result Settings Fault → Settings
-ended s (Ok t) = t
+-- the code's answer: the settings that it leaves, stopped where there is a fault
+abbrev pub ended : Settings → Result Unit Fault → Settings
+ended s (Ok u) = s
 ended s (Err f) = stopped s f
 
 -- "the first line that is not blank is `nodes`"; "`a second nodes line`"

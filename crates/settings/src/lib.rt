@@ -1,8 +1,8 @@
 // Reads the settings of a load trial from the lines of a text.
 #![tactic(auto)]
 
-ghost use Rattle.std.specs.Prelude.{◌≡◌, set};
-ghost use Rattle.settings.specs.Settings.{stopped, ended, user_stage, nodes_taken, actions_taken, user_taken, line_taken, feed_of, end_of, finish_of, started};
+ghost use Rattle.std.specs.Prelude.{◌≡◌};
+ghost use Rattle.settings.specs.Settings.{ended, user_stage, nodes_taken, actions_taken, user_taken, line_taken, feed_of, end_of, finish_of, started};
 
 use charts::{Refusal, User, Users};
 use faults::Fault;
@@ -40,31 +40,24 @@ pub fn start() -> Settings
     }
 }
 
-fn stop(s: Settings, fault: Fault) -> Settings
-    ensures { result ≡ stopped s fault }
-{
-    Settings {
-        fault: Some(fault),
-        ..s
-    }
-}
-
 #[tactic(auto, unfolding(crate::specs::Settings::nodes_taken))]
-fn take_nodes(s: Settings, n: u8) -> Result<Settings, Fault>
-    ensures { ended s result ≡ nodes_taken s n }
+fn take_nodes(s: &mut Settings, n: u8) -> Result<(), Fault>
+    ensures { ended s.new result ≡ nodes_taken s.old n }
 {
     notation::nodes_stage(s.n, n)?;
-    Ok(Settings { n, ..s })
+    s.n = n;
+    Ok(())
 }
 
 #[tactic(auto, unfolding(crate::specs::Settings::actions_taken))]
-fn take_actions(s: Settings, k: u16) -> Result<Settings, Fault>
-    ensures { ended s result ≡ actions_taken s k }
+fn take_actions(s: &mut Settings, k: u16) -> Result<(), Fault>
+    ensures { ended s.new result ≡ actions_taken s.old k }
 {
     if s.n == 0 {
         return Err(Fault::NodesMissing);
     }
-    Ok(Settings { actions: k, ..s })
+    s.actions = k;
+    Ok(())
 }
 
 // What a user of node i that sends to an address makes of a text that has n nodes so far.
@@ -88,33 +81,24 @@ fn user_stage(n: u8, i: u8, address: u8) -> Result<(), Fault>
 }
 
 // A user's settings in place of those before it. From node 63 on there is no place.
-fn with_user(mut users: Users, i: u8, u: User) -> Users
-    ensures { result ≡ set users i u }
-{
-    let i = i as usize;
-    if i < users.len() {
-        users[i] = u;
-    }
-    users
-}
-
 #[tactic(auto, unfolding(crate::specs::Settings::user_taken))]
-fn take_user(s: Settings, i: u8, u: User) -> Result<Settings, Fault>
-    ensures { ended s result ≡ user_taken s i u }
+fn take_user(s: &mut Settings, i: u8, u: User) -> Result<(), Fault>
+    ensures { ended s.new result ≡ user_taken s.old i u }
 {
     user_stage(s.n, i, u.address)?;
-    Ok(Settings {
-        users: with_user(s.users, i, u),
-        ..s
-    })
+    let at = i as usize;
+    if at < s.users.len() {
+        s.users[at] = u;
+    }
+    Ok(())
 }
 
 #[tactic(auto, unfolding(crate::specs::Settings::line_taken))]
-fn take_line(s: Settings, said: Result<Line, Fault>) -> Result<Settings, Fault>
-    ensures { ended s result ≡ line_taken s said }
+fn take_line(s: &mut Settings, said: Result<Line, Fault>) -> Result<(), Fault>
+    ensures { ended s.new result ≡ line_taken s.old said }
 {
     match said? {
-        Line::Blank => Ok(s),
+        Line::Blank => Ok(()),
         Line::Nodes(n) => take_nodes(s, n),
         Line::Actions(k) => take_actions(s, k),
         Line::User(i, u) => take_user(s, i, u),
@@ -124,20 +108,17 @@ fn take_line(s: Settings, said: Result<Line, Fault>) -> Result<Settings, Fault>
 
 // Takes a line of the text, without its newline. Settings that have stopped take none.
 #[tactic(auto, unfolding(crate::specs::Settings::feed_of))]
-pub fn feed(s: Settings, line: &[u8]) -> Settings
+pub fn feed(mut s: Settings, line: &[u8]) -> Settings
     ensures { result ≡ feed_of s line.now }
 {
     if s.fault.is_some() {
         return s;
     }
-    let next = Settings {
-        line: notation::count_line(s.line),
-        ..s
-    };
-    match take_line(next, notation::parse_line(Text::Settings, line)) {
-        Ok(taken) => taken,
-        Err(fault) => stop(next, fault),
+    s.line = notation::count_line(s.line);
+    if let Err(fault) = take_line(&mut s, notation::parse_line(Text::Settings, line)) {
+        s.fault = Some(fault);
     }
+    s
 }
 
 // What the end of the text makes of settings. A user 0 that still sends to 0 has no line, since such a line is refused.
@@ -159,14 +140,11 @@ fn end(s: Settings) -> Result<(), Fault>
 
 // The end of the text.
 #[tactic(auto, unfolding(crate::specs::Settings::finish_of))]
-pub fn finish(s: Settings) -> Settings
+pub fn finish(mut s: Settings) -> Settings
     ensures { result ≡ finish_of s }
 {
-    if s.fault.is_some() {
-        return s;
+    if s.fault.is_none() {
+        s.fault = end(s).err();
     }
-    match end(s) {
-        Ok(()) => s,
-        Err(fault) => stop(s, fault),
-    }
+    s
 }
