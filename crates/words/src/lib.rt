@@ -2,7 +2,7 @@
 #![tactic(auto)]
 
 ghost use Rattle.std.specs.Prelude.{◌≡◌, false, [], ◌∷◌, ◌+◌, ◌-◌, ◌<◌, ◌≤◌, length, take, drop, get_or};
-ghost use Rattle.words.specs.Words.{is_blank, ends_word, texts, named_in, name_of, digit_of, digits_of, is_hex, token_of, limit, capped, value_of};
+ghost use Rattle.words.specs.Words.{is_blank, ends_word, texts, named_in, name_of, digit_of, digits_of, is_hex, token_of, value_of};
 ghost use Rattle.words.specs.Names.{name_number};
 ghost use Rattle.words.specs.Cursors.{tokens_left, stepped};
 
@@ -146,20 +146,13 @@ fn digit(b: u8) -> u8
     }
 }
 
-fn cap(x: u64) -> u64
-    ensures value { result ≡ capped x }
-    ensures upper_bound { result ≤ limit }
-{
-    x.min(LIMIT)
-}
-
 fn value(x: u64) -> Token
     ensures { result ≡ value_of x }
 {
-    if x < LIMIT {
-        return Token::Number(x as u32);
+    match u32::try_from(x) {
+        Ok(number) => Token::Number(number),
+        Err(_) => Token::Large,
     }
-    Token::Large
 }
 
 // The number that digits of a base are.
@@ -174,7 +167,7 @@ fn number(base: u8, w: &[u8]) -> Token
         if base <= d {
             return Token::Word(None);
         }
-        x = cap(x * (base as u64) + d as u64);
+        x = (x * base as u64 + d as u64).min(LIMIT);
     }
     value(x)
 }
