@@ -7,6 +7,7 @@ ghost use Rattle.listing.specs.Listed.{naming};
 use walk::Part;
 
 // Puts the lines of a block's actions, the first of which has that index, from place `at` on, up to the first refusal.
+// (The bounds as in `player`: what `walk::enter` gives.)
 pub(crate) fn put_actions(
     n: u8,
     piece: &[u8],

@@ -15,7 +15,7 @@ use files::order;
 use files::order::Stage;
 use walk::{Fed, Walk};
 
-// A listing between two pieces of a file: block 0's n, and how far the file has been read.
+// A listing between two pieces of a file: block 0's n, and how far the file has been read. (A summing has the same fields, and is a walk of its own.)
 #[derive(Clone, Copy)]
 pub struct Listing {
     pub n: u8,

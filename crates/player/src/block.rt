@@ -22,6 +22,7 @@ pub(crate) fn opening(stage: Stage, b: Bus, n: u8) -> Bus
 
 // Plays the actions of a block, the first of which has that index, and puts their text from place `at` on, up to the first refusal.
 // Each action changes the bus where it lies: to hand it to `bus::advance` and back would copy it twice an action.
+// The bounds are what `walk::enter` gives; a struct to keep them would be put together and taken apart here alone.
 pub(crate) fn play_actions(
     b: Bus,
     piece: &[u8],

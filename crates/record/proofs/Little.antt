@@ -36,10 +36,6 @@ value_bound (b ∷ l) h =
     let g = value_bound l (λ i. h (suc i)) in
     omega arith
 
-pub length_little : (k x : ℕ) → length (little k x) ≡ k
-length_little zero x = refl
-length_little (suc k) x = ap suc (length_little k (x / 256))
-
 pub bytes_little : (k x : ℕ) → Bytes (little k x)
 bytes_little zero x i = omega arith
 bytes_little (suc k) x zero = omega arith
@@ -64,19 +60,6 @@ pub sets_append : (s : List ℕ) (at : ℕ) (xs ys : List ℕ) → sets s at (xs
 sets_append s at [] ys = ap (λ (k : ℕ). sets s k ys) (omega arith)
 sets_append s at (x ∷ xs) ys =
     sets_append (set s at x) (suc at) xs ys ∙ ap (λ (k : ℕ). sets (sets (set s at x) (suc at) xs) k ys) (omega arith)
-
--- a turn of the loop that stores a number's bytes
-pub store_more : (s : List ℕ) (at i width x : ℕ) → i < width
-    → sets s (at + i) (little (width - i) x) ≡ sets (set s (at + i) (x % 256)) (at + (i + 1)) (little (width - (i + 1)) (x / 256))
-store_more s at i width x h =
-    let w : width - i ≡ suc (width - (i + 1)) = omega arith in
-    let e : at + (i + 1) ≡ suc (at + i) = omega arith in
-    rw (w, e)
-
-pub store_none : (s : List ℕ) (at i width x : ℕ) → width ≤ i → sets s (at + i) (little (width - i) x) ≡ s
-store_none s at i width x h =
-    let w : width - i ≡ 0 = omega arith in
-    rw w
 
 -- the four bytes of a number
 pub little_4 : (x : ℕ) → little 4 x ≡ x % 256 ∷ x / 256 % 256 ∷ x / 65536 % 256 ∷ x / 16777216 % 256 ∷ []

@@ -219,20 +219,6 @@ fn bytes_of(a: Action) -> [u8; 16]
     ]
 }
 
-// Writes the lowest `width` bytes of a number at a place, the lowest first; nothing where they have no room.
-pub fn put_little(out: &mut [u8], at: usize, width: usize, x: u32)
-    ensures { out.new ≡ put_at out.old at (little width x) }
-{
-    if !has_room(out.len(), at, width) {
-        return;
-    }
-    let mut rest = x;
-    for i in 0..width {
-        out[at + i] = (rest % 256) as u8;
-        rest /= 256;
-    }
-}
-
 // Writes a record's 16 bytes at a place and answers the place after them; where they have no room, it writes nothing and answers the place itself.
 pub fn write_action(out: &mut [u8], at: usize, a: Action) -> usize
     ensures value { result ≡ cond (has_room (length out.old) at 16) (at + 16) at }

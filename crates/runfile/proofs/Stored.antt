@@ -91,3 +91,18 @@ pub copied : (s : List ℕ) (at count : ℕ) (new bytes : List ℕ) → new ≡ 
 copied s at count new bytes e n h =
     let room = le-leb (at + count) (length s) h in
     put_copied s at count new bytes e n room ∙ put_sets s at bytes count n room
+
+-- the head's number and the check, copied over their parts
+pub head_copied : (number n : ℕ) (records new : List ℕ) → length records ≤ 496 → new ≡ little 4 number
+    → set (set (put_mid 0 4 (sets (zeros 512) 14 records) new) 4 (length records / 16)) 5 n ≡ body_of number n records ++ zeros 2
+head_copied number n records new few e =
+    let s : List ℕ = sets (zeros 512) 14 records in
+    let room : has_room (length s) 0 4 ≡ true = rw length-sets in
+    rw (put_copied s 0 4 new (little 4 number) e refl room) (head_stored number n records few)
+
+pub check_copied : (body : List ℕ) (check : ℕ) (new : List ℕ) → length body ≡ 510 → new ≡ little 2 check
+    → put_mid 510 (length (body ++ zeros 2) - 510) (body ++ zeros 2) new ≡ body ++ little 2 check
+check_copied body check new long e =
+    let all : length (body ++ zeros 2) ≡ 512 = simp length-append (omega arith) in
+    let room : has_room (length (body ++ zeros 2)) 510 2 ≡ true = rw all in
+    rw all (put_copied (body ++ zeros 2) 510 2 new (little 2 check) e refl room ∙ check_stored body check long)

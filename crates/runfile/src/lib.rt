@@ -10,7 +10,7 @@ ghost use Rattle.runfile.specs.Sums.{sums_of};
 ghost use Rattle.runfile.specs.Write.{first_refusal, Called, write_number, Takes, block_with, written};
 
 use charts::Refusal;
-use record::{decode, is_size, number_of, put_little, read_action};
+use record::{decode, is_size, number_of, read_action};
 
 const MODULUS: u32 = 65521;
 
@@ -229,11 +229,12 @@ fn store_head(block: &mut [u8], number: u32, n: u8, records: &[u8], sum: u32)
     requires sum_value { sum ≡ weigh 14 records.now }
     ensures { block.new ≡ block_with number n records.now }
 {
-    put_little(block, 0, 4, number);
+    block[..4].copy_from_slice(&number.to_le_bytes());
     block[4] = (records.len() / 16) as u8;
     block[5] = n;
-    let head = weighed(&block[0..14], 0);
-    put_little(block, 510, 2, (sum + head) % MODULUS);
+    let head = weighed(&block[..14], 0);
+    let check = ((sum + head) % MODULUS) as u16;
+    block[510..].copy_from_slice(&check.to_le_bytes());
 }
 
 // Writes a block of the action records whose bytes are given, and gives the sums of its actions; or refuses, and leaves the lent buffer as it was.

@@ -8,6 +8,7 @@ use walk::Part;
 
 // Looks at a block's actions, the first of which has that index, by 2 to 6 (13 and 15 after 5), and puts the line of the first that is refused, if there is one,
 // from place `at` on.
+// (The bounds as in `player`: what `walk::enter` gives.)
 pub(crate) fn look_at_actions(
     n: u8,
     piece: &[u8],
