@@ -62,7 +62,7 @@ fn copy_at(out: &mut [u8], at: usize, text: &[u8])
     out[at..at + text.len()].copy_from_slice(text);
 }
 
-// Writes the bytes held.
+// Writes the bytes held. The buffer is lent as `&mut`: through `&` the proof loses what a lent field of a sink has.
 fn write_held<W: Write>(writer: &mut W, out: &mut [u8], used: usize) -> io::Result<()>
     requires { used ≤ length out.old }
     ensures out { out.new ≡ out.old }
@@ -108,7 +108,7 @@ impl<'a, W: Write> Sink<'a, W> {
         }
     }
 
-    // Takes the bytes held, and answers how many they are; with none taken back since a failed write there are none to take.
+    // Takes the bytes held, and answers how many they are. After a failed write there is nothing to take, and an error is the answer.
     fn take_held(&mut self) -> io::Result<usize>
         ensures same_buffer { self.new.buf.ghost_name ≡ self.old.buf.ghost_name }
         ensures buf { self.new.buf.now ≡ self.old.buf.now }
@@ -183,6 +183,7 @@ pub fn fill<R: Read>(reader: &mut R, buf: &mut [u8]) -> Result<usize, ReadError>
     ensures at_end { IfOk result (λ count. count < length buf.new → IsAtEnd (R.remaining reader.new)) }
 {
     let mut count = 0;
+    // no iterator: a read gives as many bytes as it will
     while count < buf.len() {
         match reader.read(&mut buf[count..]) {
             Ok(0) => break,

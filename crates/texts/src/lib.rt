@@ -8,7 +8,8 @@ use notation::Text;
 use std::io::{Read, Write};
 use stream::{Failure, ReadError};
 
-// A text that is read by way of a buffer: where the bytes that are not taken begin and end there, and whether the input has ended.
+// A text that is read by way of a buffer: where the bytes that are not taken begin and end there (places, since no struct can hold a slice of what it
+// holds too), and whether the input has ended.
 #[derive(Drop)]
 pub struct Lines<'a, R> {
     reader: R,
