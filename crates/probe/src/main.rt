@@ -3,9 +3,9 @@
 
 ghost use Rattle.std.specs.Prelude.{◌≡◌, ◌≤◌, length};
 
-use charts::{Buffer, Bus, Datum, Head, Mode, Node, Packet, Phase, Question, Seen, Signal, Word};
+use charts::{Bus, Head, Mode, Node, Packet, Phase, Question, Signal, Word};
 use std::io::{Read, Write};
-use stream::{Held, Input, Output};
+use stream::Failure;
 
 // A head of 24 bytes, and 9 nodes of 40 bytes.
 const SIZE: usize = 384;
@@ -14,10 +14,9 @@ const HEAD: usize = 24;
 
 const NODE: usize = 40;
 
-const NODES: usize = 9;
-
+// The bytes of a part, and 0 beyond them.
 fn byte(part: &[u8], i: usize) -> u8 {
-    if i < part.len() { part[i] } else { 0 }
+    part.get(i).copied().unwrap_or(0)
 }
 
 fn flag(part: &[u8], i: usize) -> bool {
@@ -27,36 +26,24 @@ fn flag(part: &[u8], i: usize) -> bool {
 fn number(part: &[u8], i: usize) -> u32
     requires { i ≤ 384 }
 {
-    record::number_of(
+    u32::from_le_bytes([
         byte(part, i),
         byte(part, i + 1),
         byte(part, i + 2),
         byte(part, i + 3),
-    )
+    ])
 }
 
 fn head_of(label: u8, header: u32) -> Head {
-    Head {
-        header: header,
-        label: label,
-    }
+    Head { header, label }
 }
 
 fn packet_of(to: u8, label: u8, header: u32, datum: u32) -> Packet {
     Packet {
-        to: to,
+        to,
         head: head_of(label, header),
-        datum: datum,
+        datum,
     }
-}
-
-// What AckEnd remembers, and what a Tail mode does.
-fn seen_of(good: bool, ack: u8) -> Seen {
-    if good { Seen::Ack(ack) } else { Seen::Nothing }
-}
-
-fn datum_of(good: bool, datum: u32) -> Datum {
-    if good { Datum::Good(datum) } else { Datum::Bad }
 }
 
 // The mode of a node's part, by its place.
@@ -65,12 +52,12 @@ fn mode_of(part: &[u8]) -> Mode {
     let ack = byte(part, 2);
     let good = flag(part, 3);
     let head = head_of(byte(part, 4), number(part, 16));
-    let datum = datum_of(good, number(part, 20));
+    let datum = good.then_some(number(part, 20));
     match byte(part, 0) {
         0 => Mode::Rest,
         1 => Mode::AwaitAck,
         2 => Mode::AckBody,
-        3 => Mode::AckEnd(seen_of(good, ack)),
+        3 => Mode::AckEnd(good.then_some(ack)),
         4 => Mode::Opened,
         5 => Mode::Addressed,
         6 => Mode::HeadOwn,
@@ -85,8 +72,8 @@ fn mode_of(part: &[u8]) -> Mode {
         15 => Mode::Told,
         16 => Mode::Answering,
         17 => Mode::Acking {
-            step: step,
-            ack: ack,
+            step,
+            ack,
             hold: good,
         },
         18 => Mode::Holding,
@@ -96,22 +83,15 @@ fn mode_of(part: &[u8]) -> Mode {
     }
 }
 
-fn buffer_of(part: &[u8]) -> Buffer {
-    if flag(part, 9) {
-        return Buffer::Full(packet_of(
+fn node_of(part: &[u8]) -> Node {
+    Node {
+        mode: mode_of(part),
+        buffer: flag(part, 9).then_some(packet_of(
             byte(part, 10),
             byte(part, 11),
             number(part, 24),
             number(part, 28),
-        ));
-    }
-    Buffer::Empty
-}
-
-fn node_of(part: &[u8]) -> Node {
-    Node {
-        mode: mode_of(part),
-        buffer: buffer_of(part),
+        )),
         sending: packet_of(
             byte(part, 12),
             byte(part, 13),
@@ -157,31 +137,19 @@ fn phase_of(part: &[u8]) -> Phase {
 fn bus_of(question: &[u8]) -> Bus
     requires { length question.now ≡ 384 }
 {
-    let begun = bus::fresh(63);
-    let fresh = begun.bus;
-    let mut nodes = fresh.nodes;
-    let mut won = fresh.won;
-    let mut pending = fresh.pending;
-    let mut holder = fresh.holder;
-    let mut misled = fresh.misled;
-    for k in 0..NODES {
-        let from = HEAD + NODE * k;
-        let part = &question[from..];
-        nodes[k] = node_of(part);
-        won[k] = flag(part, 5);
-        pending[k] = flag(part, 6);
-        holder[k] = flag(part, 7);
-        misled[k] = flag(part, 8);
+    let mut bus = bus::fresh(63).bus;
+    for (k, part) in question[HEAD..].chunks_exact(NODE).enumerate() {
+        bus.nodes[k] = node_of(part);
+        bus.won[k] = flag(part, 5);
+        bus.pending[k] = flag(part, 6);
+        bus.holder[k] = flag(part, 7);
+        bus.misled[k] = flag(part, 8);
     }
     Bus {
         n: byte(question, 0),
         phase: phase_of(question),
-        nodes: nodes,
-        won: won,
-        pending: pending,
-        holder: holder,
-        misled: misled,
         concatenated: flag(question, 7),
+        ..bus
     }
 }
 
@@ -199,48 +167,35 @@ fn word_of(place: u8) -> Word {
     }
 }
 
-// Answers a question; whether the answer was written.
-fn answer<W: Write>(to: &mut Output<W>, question: &[u8]) -> bool
+// Answers a question.
+fn answer<W: Write>(writer: &mut W, question: &[u8]) -> Result<(), Failure>
     requires { length question.now ≡ 384 }
 {
-    let q = Question {
+    let asked = Question {
         word: word_of(byte(question, 12)),
         node: byte(question, 13),
     };
-    let x = routes::find(bus_of(question), q, byte(question, 14));
+    let found = routes::find(bus_of(question), asked, byte(question, 14));
     let mut text = [0u8; 512];
-    let end = answering::put_answer(&mut text, 0, x);
-    let held = Held {
-        used: transcript::put_word(&mut text, end, b"\n"),
-        whole: true,
-    };
-    stream::flush(to, &text, held)
+    let end = answering::put_answer(&mut text, 0, found);
+    let end = transcript::put_word(&mut text, end, b"\n");
+    writer.write_all(&text[..end]).map_err(Failure::Output)
 }
 
-// A proved loop has to end, so it has as many turns as no input uses up.
-fn run<R: Read, W: Write>(
-    err: &impl Eprint,
-    from: &mut Input<R>,
-    to: &mut Output<W>,
-    question: &mut [u8],
-)
-    requires { length question.old ≡ 384 }
-{
+// Answers questions up to one that is not whole; a read that fails ends them too. A proved loop has to end, so it has as many turns as no input uses up.
+fn run<R: Read, W: Write>(reader: &mut R, writer: &mut W) -> Result<(), Failure> {
+    let mut question = [0u8; SIZE];
     for _ in 0..u64::MAX {
-        let filled = stream::fill(from, question);
-        if filled.count < SIZE {
-            return;
+        if !matches!(stream::fill(reader, &mut question), Ok(SIZE)) {
+            break;
         }
-        if !answer(to, question) {
-            stream::tell(err, "probe: standard output", to.failure);
-            return;
-        }
+        answer(writer, &question)?;
     }
+    Ok(())
 }
 
 fn main(rt: HostRuntime) {
-    let mut question = [0u8; 384];
-    let mut from = Input::new(rt.stdin());
-    let mut to = Output::new(rt.stdout());
-    run(&rt.stderr(), &mut from, &mut to, &mut question);
+    if let Err(failure) = run(&mut rt.stdin(), &mut rt.stdout()) {
+        stream::tell(&rt.stderr(), "probe", failure);
+    }
 }
