@@ -68,7 +68,7 @@ pub enum Token {
     Large,
 }
 
-const NAMES: [(&[u8], Name); 33] = [
+static NAMES: [(&[u8], Name); 33] = [
     (b"request", Name::Kind(Kind::Request)),
     (b"arbitrate", Name::Kind(Kind::Arbitrate)),
     (b"respond", Name::Kind(Kind::Respond)),
