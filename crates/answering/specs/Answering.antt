@@ -1,8 +1,9 @@
 -- The answer to a question as text: "the route as lines in plain words, or `none`, or the refusal".
-use Rattle.std.specs.Prelude.{cond, not, List, [], ◌∷◌, ℕ, eqb, ltb, get_or}
+use Rattle.std.specs.Prelude.{cond, List, [], ◌∷◌, ℕ, ltb, get_or, Option, Some, None, Result, Ok, Err}
 use Rattle.charts.specs.declared.Action.{Action}
-use Rattle.charts.specs.declared.Answer.{Answer}
-use Rattle.charts.specs.Numbers as N
+use Rattle.charts.specs.declared.Refusal.{Refusal}
+use Rattle.charts.specs.declared.Route.{Route}
+use Rattle.charts.specs.Numbers.{number_of}
 use Rattle.charts.specs.Records.{blank}
 use Rattle.transcript.specs.Lines.{line, texts_from}
 use Rattle.transcript.specs.Printed.{action_line}
@@ -24,11 +25,10 @@ refused_text k = line (ascii "refused" ∷ decimal k ∷ [])
 abbrev pub none_text : List ℕ
 none_text = ascii "none\n"
 
-unfoldable pub answer_text : Answer → List ℕ
-answer_text x =
-    cond (not (eqb x.number N.accepted)) (refused_text x.number)
-    (cond x.found (route_text x.count x.actions)
-    none_text)
+unfoldable pub answer_text : Result (Option Route) Refusal → List ℕ
+answer_text (Err refusal) = refused_text (number_of refusal)
+answer_text (Ok None) = none_text
+answer_text (Ok (Some route)) = route_text route.count route.actions
 
 -- the room that it finds, whatever its own length
 abbrev pub room : ℕ

@@ -1,11 +1,14 @@
 // The answer to a question as text, put into a buffer that the caller lends.
-#![tactic(auto)]
+#![tactic(auto, using(transcript::proofs::Writes::pieces))]
 
 ghost use Rattle.std.specs.Prelude.{◌≡◌, ◌+◌, ◌≤◌, length};
-ghost use Rattle.transcript.specs.Room.{Puts, end_in, put_in};
+ghost use Rattle.charts.specs.Numbers.{number_of};
+ghost use Rattle.transcript.specs.Room.{end_in, put_in};
+ghost use Rattle.transcript.specs.Writer.{written};
 ghost use Rattle.answering.specs.Answering.{room, held, route_text, refused_text, answer_text};
 
-use charts::{Action, Answer};
+use charts::{Answer, Refusal, Route};
+use transcript::writer::Line;
 
 // Six lines of at most 64 bytes.
 const ROOM: usize = 384;
@@ -15,51 +18,38 @@ fn held(count: u8) -> u8
     ensures value { result ≡ held count }
     ensures upper_bound { result ≤ 6 }
 {
-    if count < 6 { count } else { 6 }
+    count.min(6)
 }
 
 // The lines of a route.
-fn put_route(out: &mut [u8], at: usize, count: u8, actions: [Action; 6]) -> usize
-    requires { at + room ≤ length out.old }
-    ensures upper_bound { result ≤ at + room }
-    ensures puts { Puts out.old at (route_text count actions) result out.new }
+fn put_route(line: &mut Line, route: Route)
+    ensures short { length (route_text route.count route.actions) ≤ room }
+    ensures writes { line.new ≡ written line.old (route_text route.count route.actions) }
 {
-    let last = held(count) as usize;
-    let mut end = at;
-    let mut k: usize = 0;
-    while k < last {
-        let a = actions[k];
-        end = transcript::put_action(out, end, a);
-        k += 1;
+    for &a in &route.actions[..held(route.count) as usize] {
+        line.action(a);
     }
-    end
 }
 
 // The number of a refusal.
-fn put_refused(out: &mut [u8], at: usize, number: u8) -> usize
-    requires { at + room ≤ length out.old }
-    ensures upper_bound { result ≤ at + room }
-    ensures puts { Puts out.old at (refused_text number) result out.new }
+fn put_refused(line: &mut Line, refusal: Refusal)
+    ensures { line.new ≡ written line.old (refused_text (number_of refusal)) }
 {
-    let a = transcript::put_word(out, at, b"refused ");
-    let b = transcript::put_u8(out, a, number);
-    transcript::put_word(out, b, b"\n")
+    line.word(b"refused ");
+    line.figure(refusal.number() as u64);
+    line.byte(b'\n');
 }
 
-// The answer, where there is room for it.
-fn put_lines(out: &mut [u8], at: usize, x: Answer) -> usize
-    requires { at + room ≤ length out.old }
-    ensures upper_bound { result ≤ at + room }
-    ensures puts { Puts out.old at (answer_text x) result out.new }
+#[tactic(auto, using(transcript::proofs::Writes::pieces), unfolding(crate::specs::Answering::answer_text))]
+fn put_lines(line: &mut Line, x: Answer)
+    ensures short { length (answer_text x) ≤ room }
+    ensures writes { line.new ≡ written line.old (answer_text x) }
 {
-    if x.number != 0 {
-        return put_refused(out, at, x.number);
+    match x {
+        Err(refusal) => put_refused(line, refusal),
+        Ok(None) => line.word(b"none\n"),
+        Ok(Some(route)) => put_route(line, route),
     }
-    if !x.found {
-        return transcript::put_word(out, at, b"none\n");
-    }
-    let actions = x.actions;
-    put_route(out, at, x.count, actions)
 }
 
 // The answer: the route, an action a line, or `none`, or `refused` and the number. Where fewer than 384 bytes are left nothing is put, and the place that was given
@@ -72,5 +62,7 @@ pub fn put_answer(out: &mut [u8], at: usize, x: Answer) -> usize
     if !transcript::has_room(out.len(), at, ROOM) {
         return at;
     }
-    put_lines(out, at, x)
+    let mut line = Line::new(out, at);
+    put_lines(&mut line, x);
+    line.end()
 }

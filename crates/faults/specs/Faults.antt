@@ -1,12 +1,13 @@
 -- What `compose` says of a fault, and why: "What can be wrong".
 use Rattle.std.specs.Prelude.{Bool, false, cond, ◌&&◌, ◌||◌, List, [], ◌∷◌, ◌++◌, ℕ, ◌+◌, ◌-◌, ◌/◌, ◌%◌, eqb, ltb, length, take, get_or}
+use Rattle.std.specs.List.{list_any}
 use Rattle.charts.specs.Numbers.{number_of}
 use Rattle.faults.specs.declared.Fault.{Fault}
 use Rattle.faults.specs.declared.Fault.TheVariants as F
 use Rattle.faults.specs.declared.Cause.{Cause}
 use Rattle.faults.specs.declared.Cause.TheVariants as C
-use Rattle.faults.specs.declared.words.Trait.{Trait}
-use Rattle.faults.specs.declared.words.Trait.TheVariants as T
+use Rattle.faults.specs.declared.words.Field.{Field}
+use Rattle.faults.specs.declared.words.Field.TheVariants as W
 use Rattle.transcript.specs.Text.{ascii, decimal}
 
 -- what is wrong, in words; its number for what the writer would refuse
@@ -51,96 +52,103 @@ shown_bytes (b ∷ l) = shown_byte b ++ shown_bytes l
 unfoldable pub shown : List ℕ → List ℕ
 shown w = cond (ltb 64 (length w)) (shown_bytes (take 64 w) ++ ascii "..") (shown_bytes w)
 
--- what a word may have at a place: "a byte below 32, or 127", "the bytes C2 A0", "a `*`"; l is the word from there on
-abbrev pub has_here : Trait → List ℕ → Bool
-has_here T.Control l = ltb (get_or l 0 0) 32 || eqb (get_or l 0 0) 127
-has_here T.NoBreak l = eqb (get_or l 0 0) 194 && eqb (get_or l 1 0) 160
-has_here T.Star l = eqb (get_or l 0 0) 42
+-- "a byte below 32, or 127"
+abbrev pub is_control : ℕ → Bool
+is_control b = ltb b 32 || eqb b 127
 
-abbrev pub has : Trait → List ℕ → Bool
-has t [] = false
-has t (b ∷ l) = has_here t (b ∷ l) || has t l
+abbrev pub has_control : List ℕ → Bool
+has_control w = list_any is_control w
+
+-- "the bytes C2 A0", one after the other
+abbrev pub has_no_break : List ℕ → Bool
+has_no_break [] = false
+has_no_break (b ∷ l) = (eqb b 194 && eqb (get_or l 0 0) 160) || has_no_break l
+
+-- "a `*`"
+abbrev pub has_star : List ℕ → Bool
+has_star w = list_any (λ b. eqb b 42) w
 
 -- "Right after the closing quote of a WORD […] follows where one of these holds of the whole word the first of them"
 unfoldable pub hint : List ℕ → List ℕ
 hint w =
-    cond (has T.Control w) (ascii " (no plain text: UTF-16, or a binary file)")
-    (cond (has T.NoBreak w) (ascii " (a no-break space: write a plain one)")
-    (cond (has T.Star w && ltb 1 (length w)) (ascii " (write spaces around *)")
+    cond (has_control w) (ascii " (no plain text: UTF-16, or a binary file)")
+    (cond (has_no_break w) (ascii " (a no-break space: write a plain one)")
+    (cond (has_star w && ltb 1 (length w)) (ascii " (write spaces around *)")
     []))
 
 abbrev pub quoted : List ℕ → List ℕ
 quoted w = ascii "\"" ++ (shown w ++ (ascii "\"" ++ hint w))
 
 -- the field of an action that has one alone
-abbrev pub of_first : ℕ → ℕ → ℕ
-of_first place field = cond (eqb place 1) field 0
+abbrev pub of_first : ℕ → Field → Field
+of_first place field = cond (eqb place 1) field W.Count
 
--- which field stands at a place of an action's line (1 is the place after its first word; 0 is what follows a `*`), by its number: 0 is the count, 1 and 2 are header and data,
--- 14 is the number of actions, the others take a byte. The fields of settings go by the name before them: `actions`, `user`, `to`, `spell`, `fillers` are 18 to 22, `lose` is 6.
+-- which field stands at a place of an action's line (1 is the place after its first word; 0 is what follows a `*`).
+-- The fields of settings go by the name before them: `actions`, `user`, `to`, `spell`, `fillers` are 18 to 22, `lose` is 6.
 -- `find` is 23: "`the depth of find`, also where `within` is missing"
-unfoldable pub field_of : ℕ → ℕ → ℕ
+unfoldable pub field_of : ℕ → ℕ → Field
 field_of kind place =
-    cond (eqb kind 1) (cond (eqb place 1) 3 (cond (eqb place 2) 4 (cond (eqb place 3) 1 (cond (eqb place 4) 2 (cond (eqb place 6) 11 0)))))
-    (cond (eqb kind 2) (of_first place 5)
-    (cond (eqb kind 3) (cond (eqb place 1) 6 (cond (eqb place 2) 7 0))
-    (cond (eqb kind 4) (of_first place 8)
-    (cond (eqb kind 6) (of_first place 19)
-    (cond (eqb kind 7) (of_first place 9)
-    (cond (eqb kind 11) (of_first place 12)
-    (cond (eqb kind 12) (of_first place 13)
-    (cond (eqb kind 13) (of_first place 10)
-    (cond (eqb kind 18) (of_first place 14)
-    (cond (eqb kind 19) (of_first place 15)
-    (cond (eqb kind 20) (of_first place 16)
-    (cond (eqb kind 21) (of_first place 17)
-    (cond (eqb kind 22) (of_first place 18)
-    (cond (eqb kind 23) (cond (eqb place 1) 20 (cond (eqb place 2) 21 22))
-    0))))))))))))))
-
--- of settings "THE FIELD is `the number of nodes`, `the number of actions`, […] or `the period of user`"
-unfoldable pub setting_words : ℕ → List ℕ
-setting_words field =
-    cond (eqb field 14) (ascii "the number of actions")
-    (cond (eqb field 15) (ascii "the node of user")
-    (cond (eqb field 16) (ascii "the address of user")
-    (cond (eqb field 17) (ascii "the spell of user")
-    (cond (eqb field 18) (ascii "the fillers of user")
-    (ascii "the period of user")))))
+    cond (eqb kind 1) (cond (eqb place 1) W.RequestNode (cond (eqb place 2) W.RequestAddress (cond (eqb place 3) W.Header (cond (eqb place 4) W.Data (cond (eqb place 6) W.RequestLabel W.Count)))))
+    (cond (eqb kind 2) (of_first place W.ArbitrateNode)
+    (cond (eqb kind 3) (cond (eqb place 1) W.RespondNode (cond (eqb place 2) W.Acknowledgement W.Count))
+    (cond (eqb kind 4) (of_first place W.ClockNode)
+    (cond (eqb kind 6) (of_first place W.Period)
+    (cond (eqb kind 7) (of_first place W.ChangeAddress)
+    (cond (eqb kind 11) (of_first place W.AskNode)
+    (cond (eqb kind 12) (of_first place W.DecideNode)
+    (cond (eqb kind 13) (of_first place W.Nodes)
+    (cond (eqb kind 18) (of_first place W.Actions)
+    (cond (eqb kind 19) (of_first place W.UserNode)
+    (cond (eqb kind 20) (of_first place W.UserAddress)
+    (cond (eqb kind 21) (of_first place W.Spell)
+    (cond (eqb kind 22) (of_first place W.Fillers)
+    (cond (eqb kind 23) (cond (eqb place 1) W.FindReport (cond (eqb place 2) W.FindNode W.FindDepth))
+    W.Count))))))))))))))
 
 -- of a question "`the report of find`, `the node of find`, or `the depth of find`"
-unfoldable pub question_words : ℕ → List ℕ
-question_words field =
-    cond (eqb field 20) (ascii "the report of find")
-    (cond (eqb field 21) (ascii "the node of find")
-    (ascii "the depth of find"))
+unfoldable pub question_words : Field → List ℕ
+question_words W.FindReport = ascii "the report of find"
+question_words W.FindNode = ascii "the node of find"
+question_words _ = ascii "the depth of find"
+
+-- of settings "THE FIELD is `the number of nodes`, `the number of actions`, […] or `the period of user`"
+unfoldable pub setting_words : Field → List ℕ
+setting_words W.Actions = ascii "the number of actions"
+setting_words W.UserNode = ascii "the node of user"
+setting_words W.UserAddress = ascii "the address of user"
+setting_words W.Spell = ascii "the spell of user"
+setting_words W.Fillers = ascii "the fillers of user"
+setting_words W.Period = ascii "the period of user"
+setting_words field = question_words field
 
 -- "THE FIELD is `the node of clock`, […] or for what follows a `*` `the count after *`."
-unfoldable pub field_words : ℕ → List ℕ
-field_words field =
-    cond (eqb field 0) (ascii "the count after *")
-    (cond (eqb field 1) (ascii "the header of request")
-    (cond (eqb field 2) (ascii "the data of request")
-    (cond (eqb field 3) (ascii "the node of request")
-    (cond (eqb field 4) (ascii "the address of request")
-    (cond (eqb field 5) (ascii "the node of arbitrate")
-    (cond (eqb field 6) (ascii "the node of respond")
-    (cond (eqb field 7) (ascii "the acknowledgement of respond")
-    (cond (eqb field 8) (ascii "the node of clock")
-    (cond (eqb field 9) (ascii "the address of change")
-    (cond (eqb field 10) (ascii "the number of nodes")
-    (cond (eqb field 11) (ascii "the label of request")
-    (cond (eqb field 12) (ascii "the node of ask")
-    (cond (eqb field 13) (ascii "the node of decide")
-    (cond (ltb field 20) (setting_words field)
-    (question_words field)))))))))))))))
+unfoldable pub field_words : Field → List ℕ
+field_words W.Count = ascii "the count after *"
+field_words W.Header = ascii "the header of request"
+field_words W.Data = ascii "the data of request"
+field_words W.RequestNode = ascii "the node of request"
+field_words W.RequestAddress = ascii "the address of request"
+field_words W.RequestLabel = ascii "the label of request"
+field_words W.ArbitrateNode = ascii "the node of arbitrate"
+field_words W.RespondNode = ascii "the node of respond"
+field_words W.Acknowledgement = ascii "the acknowledgement of respond"
+field_words W.ClockNode = ascii "the node of clock"
+field_words W.ChangeAddress = ascii "the address of change"
+field_words W.AskNode = ascii "the node of ask"
+field_words W.DecideNode = ascii "the node of decide"
+field_words W.Nodes = ascii "the number of nodes"
+field_words field = setting_words field
 
 -- "`, at most ` 255 or 4294967295"; of settings "255 or 65535"
-abbrev pub most_words : ℕ → List ℕ
-most_words field = cond (ltb field 3) (ascii ", at most 4294967295") (cond (eqb field 14) (ascii ", at most 65535") (ascii ", at most 255"))
+abbrev pub most_words : Field → List ℕ
+most_words W.Count = ascii ", at most 4294967295"
+most_words W.Header = ascii ", at most 4294967295"
+most_words W.Data = ascii ", at most 4294967295"
+most_words W.Actions = ascii ", at most 65535"
+most_words _ = ascii ", at most 255"
 
 -- "`"WORD", ` THE FIELD"
-abbrev pub word_of : List ℕ → ℕ → List ℕ
+abbrev pub word_of : List ℕ → Field → List ℕ
 word_of w field = ascii ": " ++ (quoted w ++ (ascii ", " ++ field_words field))
 
 -- "STATEMENT `: a bus has 2 to 63 nodes`", and so for what is not open and what is too deep

@@ -1,14 +1,14 @@
 // What is wrong in a text, as a line with its cause, put into a buffer that the caller lends, from a place on.
-#![tactic(auto)]
+#![tactic(auto, using(transcript::proofs::Writes::pieces))]
 
 mod words;
-mod write;
 
 ghost use Rattle.std.specs.Prelude.{◌≡◌, ◌+◌, ◌≤◌};
 ghost use Rattle.transcript.specs.Room.{end_in, put_in};
 ghost use Rattle.faults.specs.Faults.{longest, fault_line};
 
 use charts::Refusal;
+use transcript::writer::Line;
 
 // What is wrong in a line of a text or in a text.
 #[derive(Clone, Copy, PartialEq, Eq)]
@@ -80,5 +80,7 @@ pub fn put_fault(
     if !transcript::has_room(out.len(), at, LONGEST) {
         return at;
     }
-    words::put_fault(out, at, number, fault, cause, word)
+    let mut line = Line::new(out, at);
+    words::put_fault(&mut line, number, fault, cause, word);
+    line.end()
 }

@@ -1,42 +1,62 @@
-// A fault's line put into a buffer from a place on. Each function answers the place after what it put.
-ghost use Rattle.std.specs.Prelude.{◌≡◌, ◌+◌, ◌-◌, ◌*◌, ◌<◌, ◌≤◌, length, take, drop};
-ghost use Rattle.transcript.specs.Room.{Puts};
-ghost use Rattle.faults.specs.Faults.{fault_words, hex_digit, escaped, shown_byte, shown_bytes, shown, has_here, has, hint, quoted};
-ghost use Rattle.faults.specs.Faults.{of_first, field_of, setting_words, question_words, field_words, most_words, word_of, said_of, said_with, cause_words, fault_line};
+// A fault's line, written piece by piece.
+ghost use Rattle.std.specs.Prelude.{◌≡◌, ◌-◌, ◌<◌, ◌≤◌, length};
+ghost use Rattle.transcript.specs.Writer.{written};
+ghost use Rattle.faults.specs.Faults.{fault_words, hex_digit, escaped, shown_byte, shown_bytes, shown, has_control, has_no_break, has_star, hint, quoted};
+ghost use Rattle.faults.specs.Faults.{field_of, field_words, most_words, word_of, said_of, said_with, cause_words, fault_line, longest};
 
-use crate::{Cause, Fault, write};
+use crate::{Cause, Fault};
+use transcript::writer::Line;
 
-// What a hint looks for in a word: bytes of no text, a no-break space, a `*`.
-#[derive(Clone, Copy)]
-enum Trait {
-    Control,
-    NoBreak,
-    Star,
+// A field of a line in plain words.
+#[derive(Clone, Copy, PartialEq, Eq)]
+enum Field {
+    Count,
+    Header,
+    Data,
+    RequestNode,
+    RequestAddress,
+    RequestLabel,
+    ArbitrateNode,
+    RespondNode,
+    Acknowledgement,
+    ClockNode,
+    ChangeAddress,
+    AskNode,
+    DecideNode,
+    Nodes,
+    Actions,
+    UserNode,
+    UserAddress,
+    Spell,
+    Fillers,
+    Period,
+    FindReport,
+    FindNode,
+    FindDepth,
 }
 
-fn put_fault_words(buf: &mut [u8], at: usize, fault: Fault) -> usize
-    requires { at + 20 ≤ length buf.old }
-    ensures upper_bound { result ≤ at + 20 }
-    ensures puts { Puts buf.old at (fault_words fault) result buf.new }
+#[tactic(auto, using(transcript::proofs::Writes::pieces), unfolding(crate::specs::Faults::fault_words))]
+fn put_fault_words(line: &mut Line, fault: Fault)
+    ensures { line.new ≡ written line.old (fault_words fault) }
 {
     match fault {
-        Fault::UnknownWord => write::put_word(buf, at, b"unknown word"),
-        Fault::NotNumber => write::put_word(buf, at, b"not a number"),
-        Fault::TooLarge => write::put_word(buf, at, b"number too large"),
-        Fault::MissingField => write::put_word(buf, at, b"missing field"),
-        Fault::ExtraField => write::put_word(buf, at, b"extra field"),
-        Fault::NoRepeat => write::put_word(buf, at, b"repeat of 0"),
-        Fault::LongLine => write::put_word(buf, at, b"line over 255 bytes"),
-        Fault::NodesMissing => write::put_word(buf, at, b"no nodes line"),
-        Fault::NodesAgain => write::put_word(buf, at, b"a second nodes line"),
-        Fault::NoUser => write::put_word(buf, at, b"no user 0 line"),
-        Fault::NoAction => write::put_word(buf, at, b"no action"),
-        Fault::TooMany => write::put_word(buf, at, b"too many actions"),
-        Fault::NoQuestion => write::put_word(buf, at, b"no find line"),
-        Fault::AfterQuestion => write::put_word(buf, at, b"a line after find"),
+        Fault::UnknownWord => line.word(b"unknown word"),
+        Fault::NotNumber => line.word(b"not a number"),
+        Fault::TooLarge => line.word(b"number too large"),
+        Fault::MissingField => line.word(b"missing field"),
+        Fault::ExtraField => line.word(b"extra field"),
+        Fault::NoRepeat => line.word(b"repeat of 0"),
+        Fault::LongLine => line.word(b"line over 255 bytes"),
+        Fault::NodesMissing => line.word(b"no nodes line"),
+        Fault::NodesAgain => line.word(b"a second nodes line"),
+        Fault::NoUser => line.word(b"no user 0 line"),
+        Fault::NoAction => line.word(b"no action"),
+        Fault::TooMany => line.word(b"too many actions"),
+        Fault::NoQuestion => line.word(b"no find line"),
+        Fault::AfterQuestion => line.word(b"a line after find"),
         Fault::Refused(refusal) => {
-            let b = write::put_word(buf, at, b"refused ");
-            write::put_u8(buf, b, refusal.number())
+            line.word(b"refused ");
+            line.figure(refusal.number() as u64);
         }
     }
 }
@@ -45,364 +65,264 @@ fn hex_digit(d: u8) -> u8
     requires { d < 16 }
     ensures { result ≡ hex_digit d }
 {
-    if d < 10 { 48 + d } else { 55 + d }
+    if d < 10 { b'0' + d } else { b'A' - 10 + d }
 }
 
-fn put_escaped(buf: &mut [u8], at: usize, b: u8) -> usize
-    requires { at + 4 ≤ length buf.old }
-    ensures upper_bound { result ≤ at + 4 }
-    ensures puts { Puts buf.old at (escaped b) result buf.new }
+fn put_escaped(line: &mut Line, b: u8)
+    ensures { line.new ≡ written line.old (escaped b) }
 {
-    let c = write::put_word(buf, at, b"\\x");
-    let d = write::put_byte(buf, c, hex_digit(b / 16));
-    write::put_byte(buf, d, hex_digit(b % 16))
+    line.word(b"\\x");
+    line.byte(hex_digit(b / 16));
+    line.byte(hex_digit(b % 16));
 }
 
-fn put_shown_byte(buf: &mut [u8], at: usize, b: u8) -> usize
-    requires { at + 4 ≤ length buf.old }
-    ensures upper_bound { result ≤ at + 4 }
-    ensures puts { Puts buf.old at (shown_byte b) result buf.new }
+#[tactic(auto, using(transcript::proofs::Writes::pieces), unfolding(crate::specs::Faults::shown_byte))]
+fn put_shown_byte(line: &mut Line, b: u8)
+    ensures { line.new ≡ written line.old (shown_byte b) }
 {
-    if b == b'\t' {
-        return write::put_byte(buf, at, b' ');
+    match b {
+        b'\t' | b'\r' => line.byte(b' '),
+        32..=126 => line.byte(b),
+        _ => put_escaped(line, b),
     }
-    if b == b'\r' {
-        return write::put_byte(buf, at, b' ');
-    }
-    if b < 32 {
-        return put_escaped(buf, at, b);
-    }
-    if b < 127 {
-        return write::put_byte(buf, at, b);
-    }
-    put_escaped(buf, at, b)
 }
 
-// The first bytes of a word or a line.
-fn put_shown_bytes(buf: &mut [u8], at: usize, w: &[u8], count: usize) -> usize
-    requires count_in_bounds { count ≤ length w.now }
-    requires count_in_bounds_2 { at + 4 * count ≤ length buf.old }
-    ensures upper_bound { result ≤ at + 4 * count }
-    ensures puts { Puts buf.old at (shown_bytes (take count w.now)) result buf.new }
+fn put_shown_bytes(line: &mut Line, w: &[u8])
+    ensures { line.new ≡ written line.old (shown_bytes w.now) }
 {
-    let mut end = at;
-    let mut i: usize = 0;
-    while i < count {
-        end = put_shown_byte(buf, end, w[i]);
-        i += 1;
+    for &b in w {
+        put_shown_byte(line, b);
     }
-    end
 }
 
 // A word or a line, cut after 64 bytes.
-fn put_shown(buf: &mut [u8], at: usize, w: &[u8]) -> usize
-    requires { at + 258 ≤ length buf.old }
-    ensures upper_bound { result ≤ at + 258 }
-    ensures puts { Puts buf.old at (shown w.now) result buf.new }
+#[tactic(auto, using(transcript::proofs::Writes::pieces), unfolding(crate::specs::Faults::shown))]
+fn put_shown(line: &mut Line, w: &[u8])
+    ensures { line.new ≡ written line.old (shown w.now) }
 {
     if 64 < w.len() {
-        let b = put_shown_bytes(buf, at, w, 64);
-        return write::put_word(buf, b, b"..");
-    }
-    put_shown_bytes(buf, at, w, w.len())
-}
-
-fn has_here(t: Trait, w: &[u8], i: usize) -> bool
-    requires { i < length w.now }
-    ensures { result ≡ has_here t (drop i w.now) }
-{
-    match t {
-        Trait::Control => {
-            if w[i] < 32 {
-                return true;
-            }
-            w[i] == 127
-        }
-        Trait::NoBreak => {
-            if w[i] != 194 {
-                return false;
-            }
-            if w.len() - i < 2 {
-                return false;
-            }
-            w[i + 1] == 160
-        }
-        Trait::Star => w[i] == b'*',
+        put_shown_bytes(line, &w[..64]);
+        line.word(b"..");
+    } else {
+        put_shown_bytes(line, w);
     }
 }
 
-fn has(t: Trait, w: &[u8]) -> bool
-    ensures { result ≡ has t w.now }
+// Bytes of no text.
+fn has_control(w: &[u8]) -> bool
+    ensures { result ≡ has_control w.now }
 {
-    let mut i: usize = 0;
-    while i < w.len() {
-        if has_here(t, w, i) {
+    w.iter().any(|&b| b < 32 || b == 127)
+}
+
+// A no-break space, two bytes in UTF-8.
+fn has_no_break(w: &[u8]) -> bool
+    ensures { result ≡ has_no_break w.now }
+{
+    for k in 1..w.len() {
+        if w[k - 1] == 194 && w[k] == 160 {
             return true;
         }
-        i += 1;
     }
     false
 }
 
-fn put_hint(buf: &mut [u8], at: usize, w: &[u8]) -> usize
-    requires { at + 48 ≤ length buf.old }
-    ensures upper_bound { result ≤ at + 48 }
-    ensures puts { Puts buf.old at (hint w.now) result buf.new }
+fn has_star(w: &[u8]) -> bool
+    ensures { result ≡ has_star w.now }
 {
-    if has(Trait::Control, w) {
-        return write::put_word(buf, at, b" (no plain text: UTF-16, or a binary file)");
+    w.contains(&b'*')
+}
+
+#[tactic(auto, using(transcript::proofs::Writes::pieces), unfolding(crate::specs::Faults::hint))]
+fn put_hint(line: &mut Line, w: &[u8])
+    ensures { line.new ≡ written line.old (hint w.now) }
+{
+    if has_control(w) {
+        line.word(b" (no plain text: UTF-16, or a binary file)");
+    } else if has_no_break(w) {
+        line.word(b" (a no-break space: write a plain one)");
+    } else if has_star(w) && 1 < w.len() {
+        line.word(b" (write spaces around *)");
     }
-    if has(Trait::NoBreak, w) {
-        return write::put_word(buf, at, b" (a no-break space: write a plain one)");
-    }
-    if !has(Trait::Star, w) {
-        return at;
-    }
-    if 1 < w.len() {
-        return write::put_word(buf, at, b" (write spaces around *)");
-    }
-    at
 }
 
 // A word in quotes, with its hint.
-fn put_quoted(buf: &mut [u8], at: usize, w: &[u8]) -> usize
-    requires { at + 308 ≤ length buf.old }
-    ensures upper_bound { result ≤ at + 308 }
-    ensures puts { Puts buf.old at (quoted w.now) result buf.new }
+fn put_quoted(line: &mut Line, w: &[u8])
+    ensures { line.new ≡ written line.old (quoted w.now) }
 {
-    let b = write::put_byte(buf, at, b'"');
-    let c = put_shown(buf, b, w);
-    let d = write::put_byte(buf, c, b'"');
-    put_hint(buf, d, w)
+    line.byte(b'"');
+    put_shown(line, w);
+    line.byte(b'"');
+    put_hint(line, w);
 }
 
-fn of_first(place: u8, field: u8) -> u8
-    ensures { result ≡ of_first place field }
-{
-    if place == 1 { field } else { 0 }
-}
-
-fn field_of(kind: u8, place: u8) -> u8
+#[tactic(auto, using(transcript::proofs::Writes::pieces), unfolding(crate::specs::Faults::field_of))]
+fn field_of(kind: u8, place: u8) -> Field
     ensures { result ≡ field_of kind place }
 {
-    match kind {
-        1 => match place {
-            1 => 3,
-            2 => 4,
-            3 => 1,
-            4 => 2,
-            6 => 11,
-            _ => 0,
-        },
-        2 => of_first(place, 5),
-        3 => match place {
-            1 => 6,
-            2 => 7,
-            _ => 0,
-        },
-        4 => of_first(place, 8),
-        6 => of_first(place, 19),
-        7 => of_first(place, 9),
-        11 => of_first(place, 12),
-        12 => of_first(place, 13),
-        13 => of_first(place, 10),
-        18 => of_first(place, 14),
-        19 => of_first(place, 15),
-        20 => of_first(place, 16),
-        21 => of_first(place, 17),
-        22 => of_first(place, 18),
-        23 => match place {
-            1 => 20,
-            2 => 21,
-            _ => 22,
-        },
-        _ => 0,
+    match (kind, place) {
+        (1, 1) => Field::RequestNode,
+        (1, 2) => Field::RequestAddress,
+        (1, 3) => Field::Header,
+        (1, 4) => Field::Data,
+        (1, 6) => Field::RequestLabel,
+        (2, 1) => Field::ArbitrateNode,
+        (3, 1) => Field::RespondNode,
+        (3, 2) => Field::Acknowledgement,
+        (4, 1) => Field::ClockNode,
+        (6, 1) => Field::Period,
+        (7, 1) => Field::ChangeAddress,
+        (11, 1) => Field::AskNode,
+        (12, 1) => Field::DecideNode,
+        (13, 1) => Field::Nodes,
+        (18, 1) => Field::Actions,
+        (19, 1) => Field::UserNode,
+        (20, 1) => Field::UserAddress,
+        (21, 1) => Field::Spell,
+        (22, 1) => Field::Fillers,
+        (23, 1) => Field::FindReport,
+        (23, 2) => Field::FindNode,
+        (23, _) => Field::FindDepth,
+        _ => Field::Count,
     }
 }
 
-// A field that settings alone have.
-fn put_setting(buf: &mut [u8], at: usize, field: u8) -> usize
-    requires { at + 32 ≤ length buf.old }
-    ensures upper_bound { result ≤ at + 32 }
-    ensures puts { Puts buf.old at (setting_words field) result buf.new }
+#[tactic(auto, using(transcript::proofs::Writes::pieces), unfolding(crate::specs::Faults::field_words, crate::specs::Faults::setting_words, crate::specs::Faults::question_words))]
+fn field_words(field: Field) -> &'static [u8]
+    ensures { result.now ≡ field_words field }
 {
     match field {
-        14 => write::put_word(buf, at, b"the number of actions"),
-        15 => write::put_word(buf, at, b"the node of user"),
-        16 => write::put_word(buf, at, b"the address of user"),
-        17 => write::put_word(buf, at, b"the spell of user"),
-        18 => write::put_word(buf, at, b"the fillers of user"),
-        _ => write::put_word(buf, at, b"the period of user"),
+        Field::Count => b"the count after *",
+        Field::Header => b"the header of request",
+        Field::Data => b"the data of request",
+        Field::RequestNode => b"the node of request",
+        Field::RequestAddress => b"the address of request",
+        Field::RequestLabel => b"the label of request",
+        Field::ArbitrateNode => b"the node of arbitrate",
+        Field::RespondNode => b"the node of respond",
+        Field::Acknowledgement => b"the acknowledgement of respond",
+        Field::ClockNode => b"the node of clock",
+        Field::ChangeAddress => b"the address of change",
+        Field::AskNode => b"the node of ask",
+        Field::DecideNode => b"the node of decide",
+        Field::Nodes => b"the number of nodes",
+        Field::Actions => b"the number of actions",
+        Field::UserNode => b"the node of user",
+        Field::UserAddress => b"the address of user",
+        Field::Spell => b"the spell of user",
+        Field::Fillers => b"the fillers of user",
+        Field::Period => b"the period of user",
+        Field::FindReport => b"the report of find",
+        Field::FindNode => b"the node of find",
+        Field::FindDepth => b"the depth of find",
     }
 }
 
-// A field that questions alone have.
-fn put_question(buf: &mut [u8], at: usize, field: u8) -> usize
-    requires { at + 32 ≤ length buf.old }
-    ensures upper_bound { result ≤ at + 32 }
-    ensures puts { Puts buf.old at (question_words field) result buf.new }
+fn most_words(field: Field) -> &'static [u8]
+    ensures { result.now ≡ most_words field }
 {
     match field {
-        20 => write::put_word(buf, at, b"the report of find"),
-        21 => write::put_word(buf, at, b"the node of find"),
-        _ => write::put_word(buf, at, b"the depth of find"),
+        Field::Count | Field::Header | Field::Data => b", at most 4294967295",
+        Field::Actions => b", at most 65535",
+        _ => b", at most 255",
     }
-}
-
-fn put_field(buf: &mut [u8], at: usize, field: u8) -> usize
-    requires { at + 32 ≤ length buf.old }
-    ensures upper_bound { result ≤ at + 32 }
-    ensures puts { Puts buf.old at (field_words field) result buf.new }
-{
-    match field {
-        0 => write::put_word(buf, at, b"the count after *"),
-        1 => write::put_word(buf, at, b"the header of request"),
-        2 => write::put_word(buf, at, b"the data of request"),
-        3 => write::put_word(buf, at, b"the node of request"),
-        4 => write::put_word(buf, at, b"the address of request"),
-        5 => write::put_word(buf, at, b"the node of arbitrate"),
-        6 => write::put_word(buf, at, b"the node of respond"),
-        7 => write::put_word(buf, at, b"the acknowledgement of respond"),
-        8 => write::put_word(buf, at, b"the node of clock"),
-        9 => write::put_word(buf, at, b"the address of change"),
-        10 => write::put_word(buf, at, b"the number of nodes"),
-        11 => write::put_word(buf, at, b"the label of request"),
-        12 => write::put_word(buf, at, b"the node of ask"),
-        13 => write::put_word(buf, at, b"the node of decide"),
-        _ => {
-            if field < 20 {
-                return put_setting(buf, at, field);
-            }
-            put_question(buf, at, field)
-        }
-    }
-}
-
-fn put_most(buf: &mut [u8], at: usize, field: u8) -> usize
-    requires { at + 20 ≤ length buf.old }
-    ensures upper_bound { result ≤ at + 20 }
-    ensures puts { Puts buf.old at (most_words field) result buf.new }
-{
-    if field < 3 {
-        return write::put_word(buf, at, b", at most 4294967295");
-    }
-    if field == 14 {
-        return write::put_word(buf, at, b", at most 65535");
-    }
-    write::put_word(buf, at, b", at most 255")
 }
 
 // A word in quotes and its field.
-fn put_word_of(buf: &mut [u8], at: usize, w: &[u8], field: u8) -> usize
-    requires { at + 344 ≤ length buf.old }
-    ensures upper_bound { result ≤ at + 344 }
-    ensures puts { Puts buf.old at (word_of w.now field) result buf.new }
+fn put_word_of(line: &mut Line, w: &[u8], field: Field)
+    ensures { line.new ≡ written line.old (word_of w.now field) }
 {
-    let b = write::put_word(buf, at, b": ");
-    let c = put_quoted(buf, b, w);
-    let d = write::put_word(buf, c, b", ");
-    put_field(buf, d, field)
+    line.word(b": ");
+    put_quoted(line, w);
+    line.word(b", ");
+    line.word(field_words(field));
 }
 
 // A line and what is said of it.
-fn put_said(buf: &mut [u8], at: usize, w: &[u8], what: &[u8]) -> usize
-    requires { at + 260 + length what.now ≤ length buf.old }
-    ensures upper_bound { result ≤ at + 260 + length what.now }
-    ensures puts { Puts buf.old at (said_of w.now what.now) result buf.new }
+fn put_said(line: &mut Line, w: &[u8], what: &[u8])
+    ensures { line.new ≡ written line.old (said_of w.now what.now) }
 {
-    let b = write::put_word(buf, at, b": ");
-    let c = put_shown(buf, b, w);
-    write::put_word(buf, c, what)
+    line.word(b": ");
+    put_shown(line, w);
+    line.word(what);
 }
 
 // A line, and what is said of a number in it.
-fn put_said_with(buf: &mut [u8], at: usize, w: &[u8], what: &[u8], x: u8) -> usize
-    requires { at + 263 + length what.now ≤ length buf.old }
-    ensures upper_bound { result ≤ at + 263 + length what.now }
-    ensures puts { Puts buf.old at (said_with w.now what.now x) result buf.new }
+fn put_said_with(line: &mut Line, w: &[u8], what: &[u8], x: u8)
+    ensures { line.new ≡ written line.old (said_with w.now what.now x) }
 {
-    let b = put_said(buf, at, w, what);
-    write::put_u8(buf, b, x)
+    put_said(line, w, what);
+    line.figure(x as u64);
 }
 
 // The last of n.
 fn last_of(n: u8) -> u8
     ensures { result ≡ n - 1 }
 {
-    if n == 0 { 0 } else { n - 1 }
+    n.saturating_sub(1)
 }
 
-fn put_cause(buf: &mut [u8], at: usize, cause: Cause, w: &[u8]) -> usize
-    requires { at + 400 ≤ length buf.old }
-    ensures upper_bound { result ≤ at + 400 }
-    ensures puts { Puts buf.old at (cause_words cause w.now) result buf.new }
+#[tactic(auto, using(transcript::proofs::Writes::pieces), unfolding(crate::specs::Faults::cause_words))]
+fn put_cause(line: &mut Line, cause: Cause, w: &[u8])
+    ensures short { length (cause_words cause w.now) ≤ 400 }
+    ensures writes { line.new ≡ written line.old (cause_words cause w.now) }
 {
     match cause {
-        Cause::Plain => at,
+        Cause::Plain => {}
         Cause::Quoted => {
-            let b = write::put_word(buf, at, b": ");
-            put_quoted(buf, b, w)
+            line.word(b": ");
+            put_quoted(line, w);
         }
-        Cause::Field(kind, place) => put_word_of(buf, at, w, field_of(kind, place)),
+        Cause::Field(kind, place) => put_word_of(line, w, field_of(kind, place)),
         Cause::Large(kind, place) => {
             let field = field_of(kind, place);
-            let b = put_word_of(buf, at, w, field);
-            put_most(buf, b, field)
+            put_word_of(line, w, field);
+            line.word(most_words(field));
         }
         Cause::Missing(kind, place) => {
-            let b = write::put_word(buf, at, b": ");
-            put_field(buf, b, field_of(kind, place))
+            line.word(b": ");
+            line.word(field_words(field_of(kind, place)));
         }
-        Cause::Size => put_said(buf, at, w, b": a bus has 2 to 63 nodes"),
+        Cause::Size => put_said(line, w, b": a bus has 2 to 63 nodes"),
         Cause::Node(node, n) => {
-            let b = put_said_with(buf, at, w, b": no node ", node);
-            let c = write::put_word(buf, b, b", nodes are 0 to ");
-            write::put_u8(buf, c, last_of(n))
+            put_said_with(line, w, b": no node ", node);
+            line.word(b", nodes are 0 to ");
+            line.figure(last_of(n) as u64);
         }
         Cause::Address(address, n) => {
-            let b = put_said_with(buf, at, w, b": no address ", address);
-            let c = write::put_word(buf, b, b", addresses are 0 to ");
-            let d = write::put_u8(buf, c, last_of(n));
-            write::put_word(buf, d, b" and all")
+            put_said_with(line, w, b": no address ", address);
+            line.word(b", addresses are 0 to ");
+            line.figure(last_of(n) as u64);
+            line.word(b" and all");
         }
         Cause::Label(label) => {
-            let b = put_said_with(buf, at, w, b": no label ", label);
-            write::put_word(buf, b, b", labels are 0 to 63")
+            put_said_with(line, w, b": no label ", label);
+            line.word(b", labels are 0 to 63");
         }
         Cause::Own(node) => {
-            let b = put_said_with(buf, at, w, b": node ", node);
-            write::put_word(buf, b, b" would send to itself")
+            put_said_with(line, w, b": node ", node);
+            line.word(b" would send to itself");
         }
         Cause::Ack(ack) => {
-            let b = put_said_with(buf, at, w, b": no acknowledgement ", ack);
-            write::put_word(buf, b, b", they are 0 to 15")
+            put_said_with(line, w, b": no acknowledgement ", ack);
+            line.word(b", they are 0 to 15");
         }
-        Cause::Closed => put_said(buf, at, w, b": not open when its turn comes"),
-        Cause::Depth => put_said(
-            buf,
-            at,
-            w,
-            b": a route has at most 6 actions, on a bus of at most 8 nodes",
-        ),
+        Cause::Closed => put_said(line, w, b": not open when its turn comes"),
+        Cause::Depth => {
+            put_said(line, w, b": a route has at most 6 actions, on a bus of at most 8 nodes")
+        }
     }
 }
 
-pub(crate) fn put_fault(
-    buf: &mut [u8],
-    at: usize,
-    number: u64,
-    fault: Fault,
-    cause: Cause,
-    w: &[u8],
-) -> usize
-    requires { at + 512 ≤ length buf.old }
-    ensures upper_bound { result ≤ at + 512 }
-    ensures puts { Puts buf.old at (fault_line number fault cause w.now) result buf.new }
+#[tactic(auto, using(transcript::proofs::Writes::pieces), unfolding(crate::specs::Faults::fault_line))]
+pub(crate) fn put_fault(line: &mut Line, number: u64, fault: Fault, cause: Cause, w: &[u8])
+    ensures short { length (fault_line number fault cause w.now) ≤ longest }
+    ensures writes { line.new ≡ written line.old (fault_line number fault cause w.now) }
 {
-    let b = write::put_word(buf, at, b"line ");
-    let c = write::put_u64(buf, b, number);
-    let d = write::put_word(buf, c, b": ");
-    let e = put_fault_words(buf, d, fault);
-    let f = put_cause(buf, e, cause, w);
-    write::put_byte(buf, f, b'\n')
+    line.word(b"line ");
+    line.figure(number);
+    line.word(b": ");
+    put_fault_words(line, fault);
+    put_cause(line, cause, w);
+    line.byte(b'\n');
 }

@@ -1,42 +1,38 @@
 // The tally of a load trial as text, put into a buffer that the caller lends.
-#![tactic(auto)]
+#![tactic(auto, using(transcript::proofs::Writes::pieces))]
 
-ghost use Rattle.std.specs.Prelude.{◌≡◌, [], ◌∷◌, ◌+◌, ◌≤◌, length};
-ghost use Rattle.transcript.specs.Room.{Puts, end_in, put_in};
-ghost use Rattle.transcript.specs.Lines.{line};
-ghost use Rattle.transcript.specs.Text.{decimal};
-ghost use Rattle.tallying.specs.Tallying.{room, tally_text};
+ghost use Rattle.std.specs.Prelude.{◌≡◌, ◌+◌, ◌≤◌, length};
+ghost use Rattle.transcript.specs.Room.{end_in, put_in};
+ghost use Rattle.transcript.specs.Writer.{written};
+ghost use Rattle.tallying.specs.Tallying.{room, count_line, tally_text};
 
 use charts::Tally;
+use transcript::writer::Line;
 
 // Six lines of at most 40 bytes.
 const ROOM: usize = 240;
 
-// A word of at most 8 bytes and its number, as a line.
-fn put_count(out: &mut [u8], at: usize, word: &[u8], x: u16) -> usize
-    requires at_in_bounds { at + 40 ≤ length out.old }
-    requires word_len_bound { length word.now ≤ 8 }
-    ensures upper_bound { result ≤ at + 40 }
-    ensures puts { Puts out.old at (line (word.now ∷ decimal x ∷ [])) result out.new }
+// A word and its number, as a line.
+fn put_count(line: &mut Line, word: &[u8], x: u16)
+    ensures { line.new ≡ written line.old (count_line word.now x) }
 {
-    let a = transcript::put_word(out, at, word);
-    let b = transcript::put_word(out, a, b" ");
-    let c = transcript::put_u64(out, b, x as u64);
-    transcript::put_word(out, c, b"\n")
+    line.word(word);
+    line.byte(b' ');
+    line.figure(x as u64);
+    line.byte(b'\n');
 }
 
-// The lines, where there is room for them.
-fn put_lines(out: &mut [u8], at: usize, t: Tally) -> usize
-    requires { at + room ≤ length out.old }
-    ensures upper_bound { result ≤ at + room }
-    ensures puts { Puts out.old at (tally_text t) result out.new }
+#[tactic(auto, using(transcript::proofs::Writes::pieces), unfolding(crate::specs::Tallying::tally_text))]
+fn put_lines(line: &mut Line, t: Tally)
+    ensures short { length (tally_text t) ≤ room }
+    ensures writes { line.new ≡ written line.old (tally_text t) }
 {
-    let a = put_count(out, at, b"requests", t.requests);
-    let b = put_count(out, a, b"wins", t.wins);
-    let c = put_count(out, b, b"sent", t.sent);
-    let d = put_count(out, c, b"ack", t.acks);
-    let e = put_count(out, d, b"miss", t.misses);
-    put_count(out, e, b"drops", t.drops)
+    put_count(line, b"requests", t.requests);
+    put_count(line, b"wins", t.wins);
+    put_count(line, b"sent", t.sent);
+    put_count(line, b"ack", t.acks);
+    put_count(line, b"miss", t.misses);
+    put_count(line, b"drops", t.drops);
 }
 
 // The tally, one word and its number a line. The answer is the place after it; where fewer than 240 bytes are left nothing is put, and it is the place that was given.
@@ -48,5 +44,7 @@ pub fn put_tally(out: &mut [u8], at: usize, t: Tally) -> usize
     if !transcript::has_room(out.len(), at, ROOM) {
         return at;
     }
-    put_lines(out, at, t)
+    let mut line = Line::new(out, at);
+    put_lines(&mut line, t);
+    line.end()
 }

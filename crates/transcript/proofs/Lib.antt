@@ -1,4 +1,6 @@
 pub mod Puts
+pub mod Writes
+pub mod Lengths
 pub mod Decimals
 pub mod Rooms
 pub mod Said

@@ -1,9 +1,10 @@
 -- Text put into a buffer, piece after piece. Assumes nothing.
-use Prim.Native.Nat.{ℕ, suc, ◌+◌, ◌≤◌}
+use Prim.Native.Nat.{ℕ, suc, ◌+◌, ◌-◌, ◌≤◌}
 use mathlib.Core.Path.{◌≡◌, refl, ◌∙◌}
-use mathlib.Core.List.{List, [], ◌∷◌, ◌++◌}
+use mathlib.Core.List.{List, [], ◌∷◌, ◌++◌, append_assoc}
 use native.Mathlib.Omega.{arith}
 use lib.ListN.{length, take, drop, set, length-append}
+use Rattle.std.proofs.lemmas.List.{drop-drop}
 use lib.Seq.{length-sets, sets-eq, take_at, length-take-le}
 use Rattle.transcript.specs.Room.{put, Puts}
 
@@ -49,3 +50,17 @@ unfolding put
 take_put buf at t h =
     let e : length (take at buf ++ t) ≡ at + length t = length-append (take at buf) t ∙ rw (length-take-le at buf (omega arith)) in
     rw (sets-eq t buf at h) (take_at (take at buf ++ t) (drop (at + length t) buf) (at + length t) e)
+
+-- a text copied into its place
+pub puts_whole : (buf : List ℕ) (at : ℕ) (t : List ℕ) → at + length t ≤ length buf → Puts buf at t (at + length t) (take at buf ++ (t ++ drop (at + length t - at) (drop at buf)))
+unfolding put
+puts_whole buf at t h =
+    let far : at + length t - at ≡ length t = omega arith in
+    record { ends = refl; holds = rw (sets-eq t buf at h, append_assoc, far, drop-drop) }
+
+-- what a text put at the start of a buffer is read back as
+pub taken : {buf after : List ℕ} {end : ℕ} {t : List ℕ} → Puts buf 0 t end after → end ≤ length buf → take end after ≡ t
+taken {buf} {t = t} p h =
+    let e = p.ends in
+    let same : 0 + length t ≡ length t = omega arith in
+    rw (p.holds, p.ends) (take_put buf 0 t (omega arith))

@@ -1,4 +1,5 @@
 pub mod Text
 pub mod Lines
 pub mod Room
+pub mod Writer
 pub mod Printed

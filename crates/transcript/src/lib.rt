@@ -1,10 +1,11 @@
 // The lines of a run as text ("A run printed") and of its actions, put into a buffer that the caller lends, from a place on.
 // Each function answers the place after its line. Where fewer than 64 bytes are left it puts nothing and answers the place it was given.
 // Words and figures can be put one by one too, each where it has room.
-#![tactic(auto)]
+#![tactic(auto, using(crate::proofs::Writes::pieces))]
 
 mod text;
 mod words;
+pub mod writer;
 
 ghost use Rattle.std.specs.Prelude.{◌≡◌, [], ◌∷◌, ◌++◌, ◌+◌, ◌≤◌, leb, length};
 ghost use Rattle.transcript.specs.Lines.{line_of, nodes_line, done_line, refused_line, span_line, cell_text};
@@ -13,6 +14,7 @@ ghost use Rattle.transcript.specs.Room.{longest, end_in, put_in, end_of, put_lin
 ghost use Rattle.transcript.specs.Text.{decimal};
 
 use charts::{Action, Entry, Report};
+use writer::Line;
 
 const LONGEST: usize = 64;
 
@@ -20,13 +22,7 @@ const LONGEST: usize = 64;
 pub fn has_room(size: usize, at: usize, room: usize) -> bool
     ensures { result ≡ leb (at + room) size }
 {
-    if size < room {
-        return false;
-    }
-    if size - room < at {
-        return false;
-    }
-    true
+    room <= size && at <= size - room
 }
 
 // The line of an accepted action.
@@ -54,9 +50,11 @@ pub fn put_nodes(out: &mut [u8], at: usize, n: u8) -> usize
     if !has_room(out.len(), at, LONGEST) {
         return at;
     }
-    let a = text::put_word(out, at, b"nodes ");
-    let b = text::put_u8(out, a, n);
-    text::put_byte(out, b, b'\n')
+    let mut line = Line::new(out, at);
+    line.word(b"nodes ");
+    line.figure(n as u64);
+    line.byte(b'\n');
+    line.end()
 }
 
 // `done` and the count of all actions.
@@ -68,9 +66,11 @@ pub fn put_done(out: &mut [u8], at: usize, count: u64) -> usize
     if !has_room(out.len(), at, LONGEST) {
         return at;
     }
-    let a = text::put_word(out, at, b"done ");
-    let b = text::put_u64(out, a, count);
-    text::put_byte(out, b, b'\n')
+    let mut line = Line::new(out, at);
+    line.word(b"done ");
+    line.figure(count);
+    line.byte(b'\n');
+    line.end()
 }
 
 // `refused`, the count accepted so far and the number.
@@ -82,11 +82,13 @@ pub fn put_refused(out: &mut [u8], at: usize, accepted: u64, number: u8) -> usiz
     if !has_room(out.len(), at, LONGEST) {
         return at;
     }
-    let a = text::put_word(out, at, b"refused ");
-    let b = text::put_u64(out, a, accepted);
-    let c = text::put_byte(out, b, b' ');
-    let d = text::put_u8(out, c, number);
-    text::put_byte(out, d, b'\n')
+    let mut line = Line::new(out, at);
+    line.word(b"refused ");
+    line.figure(accepted);
+    line.byte(b' ');
+    line.figure(number as u64);
+    line.byte(b'\n');
+    line.end()
 }
 
 // An action in plain words, as `list` prints it.
@@ -98,7 +100,9 @@ pub fn put_action(out: &mut [u8], at: usize, a: Action) -> usize
     if !has_room(out.len(), at, LONGEST) {
         return at;
     }
-    words::put_action(out, at, a)
+    let mut line = Line::new(out, at);
+    line.action(a);
+    line.end()
 }
 
 // A cell of the reception chart's table, and a byte after it.
@@ -110,10 +114,14 @@ pub fn put_cell(out: &mut [u8], at: usize, e: Entry, after: u8) -> usize
     if !has_room(out.len(), at, LONGEST) {
         return at;
     }
-    let a = text::put_u8(out, at, e.place);
-    let b = text::put_first_word(out, a, e.word);
-    let c = text::put_flag(out, b, e.pends);
-    text::put_byte(out, c, after)
+    let mut line = Line::new(out, at);
+    line.figure(e.place as u64);
+    line.byte(b' ');
+    line.word(text::first_word(e.word));
+    line.byte(b' ');
+    line.byte(text::flag(e.pends));
+    line.byte(after);
+    line.end()
 }
 
 // A line's number and how many actions it says.
@@ -125,10 +133,12 @@ pub fn put_span(out: &mut [u8], at: usize, line: u64, times: u32) -> usize
     if !has_room(out.len(), at, LONGEST) {
         return at;
     }
-    let a = text::put_u64(out, at, line);
-    let b = text::put_byte(out, a, b' ');
-    let c = text::put_u32(out, b, times);
-    text::put_byte(out, c, b'\n')
+    let mut text = Line::new(out, at);
+    text.figure(line);
+    text.byte(b' ');
+    text.figure(times as u64);
+    text.byte(b'\n');
+    text.end()
 }
 
 pub fn put_word(out: &mut [u8], at: usize, word: &[u8]) -> usize

@@ -1,118 +1,118 @@
-// An action's line put into a buffer from a place on. Each function answers the place after what it put.
-ghost use Rattle.std.specs.Prelude.{[], ◌∷◌, ◌++◌, ◌+◌, ◌≤◌, length};
+// An action in plain words.
+ghost use Rattle.std.specs.Prelude.{◌≡◌, [], ◌∷◌, ◌++◌, ◌≤◌, length};
 ghost use Rattle.transcript.specs.Text.{ascii, decimal};
 ghost use Rattle.transcript.specs.Lines.{line};
-ghost use Rattle.transcript.specs.Room.{Puts};
+ghost use Rattle.transcript.specs.Writer.{written};
 ghost use Rattle.transcript.specs.Printed.{request_words, respond_words, address_word, label_words, hold_word, line_after, change_word, action_line};
 
-use crate::text;
+use crate::writer::Line;
 use charts::Action;
 
-fn put_address(buf: &mut [u8], at: usize, address: u8) -> usize
-    requires { at + 3 ≤ length buf.old }
-    ensures upper_bound { result ≤ at + 3 }
-    ensures puts { Puts buf.old at (address_word address) result buf.new }
-{
-    if address == 63 {
-        return text::put_word(buf, at, b"all");
+const EVERYBODY: u8 = 63;
+
+impl Line<'_> {
+    #[tactic(auto, using(crate::proofs::Writes::pieces), unfolding(crate::specs::Printed::address_word))]
+    fn address(&mut self, address: u8)
+        ensures { self.new ≡ written self.old (address_word address) }
+    {
+        if address == EVERYBODY {
+            self.word(b"all");
+        } else {
+            self.figure(address as u64);
+        }
     }
-    text::put_u8(buf, at, address)
-}
 
-// The label of a request, where it is not 0, and the end of the line.
-fn put_label(buf: &mut [u8], at: usize, label: u8) -> usize
-    requires { at + 11 ≤ length buf.old }
-    ensures upper_bound { result ≤ at + 11 }
-    ensures puts { Puts buf.old at (line_after (label_words label)) result buf.new }
-{
-    if label == 0 {
-        return text::put_byte(buf, at, b'\n');
+    // A header and a datum.
+    fn fields(&mut self, header: u32, datum: u32)
+        ensures { self.new ≡ written self.old (decimal header ++ (32 ∷ decimal datum)) }
+    {
+        self.figure(header as u64);
+        self.byte(b' ');
+        self.figure(datum as u64);
     }
-    let b = text::put_word(buf, at, b" label ");
-    let c = text::put_u8(buf, b, label);
-    text::put_byte(buf, c, b'\n')
-}
 
-fn put_request(buf: &mut [u8], at: usize, a: Action) -> usize
-    requires { at + 48 ≤ length buf.old }
-    ensures upper_bound { result ≤ at + 48 }
-    ensures puts { Puts buf.old at (line (request_words a)) result buf.new }
-{
-    let b = text::put_word(buf, at, b"request ");
-    let c = text::put_u8(buf, b, a.node);
-    let d = text::put_byte(buf, c, b' ');
-    let e = put_address(buf, d, a.address);
-    let f = text::put_byte(buf, e, b' ');
-    let g = text::put_fields(buf, f, a.header, a.datum);
-    put_label(buf, g, a.label)
-}
-
-// A line with a node alone: the word with a space after it, and the node.
-fn put_of_node(buf: &mut [u8], at: usize, word: &[u8], node: u8) -> usize
-    requires { at + length word.now + 4 ≤ length buf.old }
-    ensures upper_bound { result ≤ at + length word.now + 4 }
-    ensures puts { Puts buf.old at (word.now ++ line (decimal node ∷ [])) result buf.new }
-{
-    let b = text::put_word(buf, at, word);
-    let c = text::put_u8(buf, b, node);
-    text::put_byte(buf, c, b'\n')
-}
-
-fn put_hold(buf: &mut [u8], at: usize, hold: u8) -> usize
-    requires { at + 6 ≤ length buf.old }
-    ensures upper_bound { result ≤ at + 6 }
-    ensures puts { Puts buf.old at (line_after (hold_word hold)) result buf.new }
-{
-    if hold == 0 {
-        return text::put_byte(buf, at, b'\n');
+    // The label of a request, where it is not 0, and the end of the line.
+    fn label_after(&mut self, label: u8)
+        ensures { self.new ≡ written self.old (line_after (label_words label)) }
+    {
+        if label != 0 {
+            self.word(b" label ");
+            self.figure(label as u64);
+        }
+        self.byte(b'\n');
     }
-    text::put_word(buf, at, b" hold\n")
-}
 
-fn put_respond(buf: &mut [u8], at: usize, a: Action) -> usize
-    requires { at + 40 ≤ length buf.old }
-    ensures upper_bound { result ≤ at + 40 }
-    ensures puts { Puts buf.old at (line (respond_words a)) result buf.new }
-{
-    let b = text::put_word(buf, at, b"respond ");
-    let c = text::put_u8(buf, b, a.node);
-    let d = text::put_byte(buf, c, b' ');
-    let e = text::put_u8(buf, d, a.ack);
-    put_hold(buf, e, a.hold)
-}
-
-fn put_change(buf: &mut [u8], at: usize, address: u8) -> usize
-    requires { at + 40 ≤ length buf.old }
-    ensures upper_bound { result ≤ at + 40 }
-    ensures puts { Puts buf.old at (line (ascii "change" ∷ change_word address)) result buf.new }
-{
-    if address == 0 {
-        return text::put_word(buf, at, b"change\n");
+    fn request(&mut self, a: Action)
+        ensures { self.new ≡ written self.old (line (request_words a)) }
+    {
+        self.word(b"request ");
+        self.figure(a.node as u64);
+        self.byte(b' ');
+        self.address(a.address);
+        self.byte(b' ');
+        self.fields(a.header, a.datum);
+        self.label_after(a.label);
     }
-    let b = text::put_word(buf, at, b"change ");
-    let c = put_address(buf, b, address);
-    text::put_byte(buf, c, b'\n')
-}
 
-pub(crate) fn put_action(buf: &mut [u8], at: usize, a: Action) -> usize
-    requires { at + 64 ≤ length buf.old }
-    ensures upper_bound { result ≤ at + 64 }
-    ensures puts { Puts buf.old at (action_line a) result buf.new }
-{
-    let kind = a.kind;
-    match kind {
-        1 => put_request(buf, at, a),
-        2 => put_of_node(buf, at, b"arbitrate ", a.node),
-        3 => put_respond(buf, at, a),
-        4 => put_of_node(buf, at, b"clock ", a.node),
-        5 => text::put_word(buf, at, b"pass\n"),
-        6 => text::put_word(buf, at, b"lose\n"),
-        7 => put_change(buf, at, a.address),
-        8 => text::put_word(buf, at, b"grant\n"),
-        9 => text::put_word(buf, at, b"gap\n"),
-        10 => text::put_word(buf, at, b"reset\n"),
-        11 => put_of_node(buf, at, b"ask ", a.node),
-        12 => put_of_node(buf, at, b"decide ", a.node),
-        _ => text::put_byte(buf, at, b'\n'),
+    // A line with a node alone: the word with a space after it, and the node.
+    fn of_node(&mut self, word: &[u8], node: u8)
+        ensures { self.new ≡ written self.old (word.now ++ line (decimal node ∷ [])) }
+    {
+        self.word(word);
+        self.figure(node as u64);
+        self.byte(b'\n');
+    }
+
+    fn hold_after(&mut self, hold: u8)
+        ensures { self.new ≡ written self.old (line_after (hold_word hold)) }
+    {
+        if hold != 0 {
+            self.word(b" hold");
+        }
+        self.byte(b'\n');
+    }
+
+    fn respond(&mut self, a: Action)
+        ensures { self.new ≡ written self.old (line (respond_words a)) }
+    {
+        self.word(b"respond ");
+        self.figure(a.node as u64);
+        self.byte(b' ');
+        self.figure(a.ack as u64);
+        self.hold_after(a.hold);
+    }
+
+    fn change(&mut self, address: u8)
+        ensures { self.new ≡ written self.old (line (ascii "change" ∷ change_word address)) }
+    {
+        self.word(b"change");
+        if address != 0 {
+            self.byte(b' ');
+            self.address(address);
+        }
+        self.byte(b'\n');
+    }
+
+    // An action in plain words, as `list` prints it.
+    #[tactic(auto, using(crate::proofs::Writes::pieces, crate::proofs::Lengths::action_short), unfolding(crate::specs::Printed::action_line, crate::specs::Printed::words_for))]
+    pub fn action(&mut self, a: Action)
+        ensures short { length (action_line a) ≤ 64 }
+        ensures writes { self.new ≡ written self.old (action_line a) }
+    {
+        match a.kind {
+            1 => self.request(a),
+            2 => self.of_node(b"arbitrate ", a.node),
+            3 => self.respond(a),
+            4 => self.of_node(b"clock ", a.node),
+            5 => self.word(b"pass\n"),
+            6 => self.word(b"lose\n"),
+            7 => self.change(a.address),
+            8 => self.word(b"grant\n"),
+            9 => self.word(b"gap\n"),
+            10 => self.word(b"reset\n"),
+            11 => self.of_node(b"ask ", a.node),
+            12 => self.of_node(b"decide ", a.node),
+            _ => self.byte(b'\n'),
+        }
     }
 }

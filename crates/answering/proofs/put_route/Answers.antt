@@ -1,22 +1,28 @@
-use borrow.Author.Rules.{rules}
-use mathlib.Core.Path.{◌≡◌, subst, ◌∙◌}
-use Prim.Native.Nat.{◌-◌}
+use mathlib.Core.Path.{◌≡◌, refl, sym}
 use native.Mathlib.Omega.{arith}
+use lib.ListN.{take, length-append}
+use lib.Seq.{length-take-le}
 use Rattle.transcript.specs.Lines.{texts_from}
-use Rattle.transcript.specs.Room.{Puts}
-use Rattle.transcript.proofs.Puts.{and_then, puts_none}
-use Rattle.transcript.proofs.Rooms.{puts_line}
-use Rattle.transcript.proofs.Texts.{texts_more, texts_none}
-use Rattle.answering.specs.Answering.{held, record_line}
+use Rattle.transcript.specs.Writer.{written}
+use Rattle.transcript.proofs.Writes.{written_written}
+use Rattle.answering.specs.Answering.{record_line, route_text}
+use Rattle.answering.proofs.Texts.{texts_push, same_texts}
 use Rattle.answering.proofs.put_route.Goals as goal
 
-pub loop-k-init : goal.loop-k-init
-loop-k-init c = (search rules, search rules, search rules, λ stop after p. p)
+pub loop-a-init : goal.loop-a-init
+unfolding written
+loop-a-init c = (omega arith, refl)
 
-pub loop-k-preserved : goal.loop-k-preserved
-loop-k-preserved c = let record' : Puts c.loop-k.out c.loop-k.end (record_line c.args.actions c.loop-k.k) c.put_action-end.result c.put_action-end.new.out = puts_line (omega (arith, c.requires, c.loop-k-test.true, c.held-last.ensures.upper_bound, c.loop-k.invariant.1, c.loop-k.invariant.2)) c.put_action-end.ensures.value c.put_action-end.ensures.out_after in
-    (omega (arith, c.loop-k-test.true), omega (arith, c.put_action-end.ensures.upper_bound, c.loop-k.invariant.1), search rules, λ stop after p. c.loop-k.invariant.3 stop after (rw (texts_more (record_line c.args.actions) c.held-last.result c.loop-k.k c.loop-k-test.true) (and_then record' p)))
+pub loop-a-preserved : goal.loop-a-preserved
+loop-a-preserved c =
+    let texts = record_line (take c.held.result c.args.route.actions) in
+    let more = length-append (texts_from texts c.loop-a.a-index 0) (texts c.loop-a.a-index) in
+    rw (texts_push texts c.loop-a.a-index) (omega arith, rw (c.action.ensures.writes, c.loop-a.invariant.1) (written_written _ _ _))
 
 pub returns : goal.returns
-returns c = let first : c.held-last.result - 0 ≡ held c.args.count = let e : c.held-last.result - 0 ≡ c.held-last.result = omega arith in e ∙ c.held-last.ensures.value in
-    record { upper_bound = omega (arith, c.loop-k.invariant.0, c.loop-k.invariant.1, c.held-last.ensures.upper_bound); puts = subst (λ m. Puts c.args.out.now c.args.at (texts_from (record_line c.args.actions) m 0) c.loop-k.end c.loop-k.out) first (c.loop-k.invariant.3 c.loop-k.end c.loop-k.out (rw (texts_none (record_line c.args.actions) c.held-last.result c.loop-k.k c.loop-k-test.false) (puts_none c.loop-k.out c.loop-k.end))) }
+returns c =
+    let whole = length-take-le c.held.result c.args.route.actions (omega arith) in
+    let last : c.loop-a.a-index ≡ c.held.result = omega arith in
+    let all : texts_from (record_line (take c.held.result c.args.route.actions)) c.loop-a.a-index 0 ≡ route_text c.args.route.count c.args.route.actions =
+    rw (last, same_texts c.args.route.actions c.held.result c.held.result (omega arith), c.held.ensures.value) in
+    record { short = rw (sym all) (omega arith); writes = rw (sym all) c.loop-a.invariant.1 }

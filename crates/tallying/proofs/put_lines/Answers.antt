@@ -1,8 +1,8 @@
-use native.Mathlib.Omega.{arith}
-use Rattle.transcript.proofs.Puts.{and_then}
-use Rattle.tallying.specs.Tallying.{tally_text}
+use Rattle.std.proofs.Common.{arith}
+use Rattle.tallying.proofs.Lengths.{tally_short, Small}
 use Rattle.tallying.proofs.put_lines.Goals as goal
 
-pub returns : goal.returns
-unfolding tally_text
-returns c = record { upper_bound = omega (arith, c.put_count-a.ensures.upper_bound, c.put_count-b.ensures.upper_bound, c.put_count-c.ensures.upper_bound, c.put_count-d.ensures.upper_bound, c.put_count-e.ensures.upper_bound, c.put_count.ensures.upper_bound); puts = and_then c.put_count-a.ensures.puts (and_then c.put_count-b.ensures.puts (and_then c.put_count-c.ensures.puts (and_then c.put_count-d.ensures.puts (and_then c.put_count-e.ensures.puts c.put_count.ensures.puts)))) }
+pub returns-clause-short : goal.returns-clause-short
+returns-clause-short c =
+    let small : Small c.args.t = record { requests = omega arith; wins = omega arith; sent = omega arith; acks = omega arith; misses = omega arith; drops = omega arith } in
+    tally_short c.args.t small

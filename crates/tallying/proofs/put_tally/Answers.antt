@@ -1,14 +1,11 @@
-use native.Mathlib.Omega.{arith}
-use lib.ListN.{length}
-use Rattle.transcript.proofs.Rooms.{fits, no_room, put_in_room}
+use Rattle.std.proofs.Common.{arith, ◌∙◌}
+use Rattle.transcript.proofs.Writes.{all_put}
 use Rattle.tallying.specs.Tallying.{room, tally_text}
 use Rattle.tallying.proofs.put_tally.Goals as goal
 
-pub returns-then-not-has_room : goal.returns-then-not-has_room
-returns-then-not-has_room c = let p = no_room room c.args.out.now c.args.at (tally_text c.args.t) c.has_room.ensures c.if-not-has_room.true-raw in record { upper_bound = omega arith; value = p.0; out_after = p.1 }
-
-pub put_lines-requires : goal.put_lines-requires
-put_lines-requires c = fits room c.args.at (length c.args.out.now) c.has_room.ensures c.if-not-has_room.false-raw
-
 pub returns : goal.returns
-returns c = let p = put_in_room room (fits room c.args.at (length c.args.out.now) c.has_room.ensures c.if-not-has_room.false-raw) c.put_lines.ensures.puts in record { upper_bound = c.put_lines.ensures.upper_bound; value = p.0; out_after = p.1 }
+returns c =
+    let new = c.new-line.ensures in
+    let put = c.put_lines.ensures in
+    let p = all_put room c.args.at c.args.out.now (tally_text c.args.t) c.new-line.result c.put_lines.new.line c.has_room.ensures c.if-not-has_room.false put.short new.starts new.holds new.same_reference put.writes c.out-1.given.1.1 in
+    record { upper_bound = omega arith; value = c.end.ensures ∙ p.1; out_after = p.2 }

@@ -1,14 +1,12 @@
+use Rattle.std.proofs.Common.{arith, ◌∙◌}
+use Rattle.transcript.specs.Printed.{action_line}
 use Rattle.transcript.specs.Room.{longest}
-use native.Mathlib.Omega.{arith}
-use Rattle.transcript.proofs.Rooms.{fits, put_in_room, no_room}
-use lib.ListN.{length}
+use Rattle.transcript.proofs.Writes.{all_put}
 use Rattle.transcript.proofs.put_action.Goals as goal
 
-pub returns-then-not-has_room : goal.returns-then-not-has_room
-returns-then-not-has_room c = record { upper_bound = omega arith; value = (no_room longest c.args.out.now c.args.at _ c.has_room.ensures c.if-not-has_room.true-raw).0; out_after = (no_room longest c.args.out.now c.args.at _ c.has_room.ensures c.if-not-has_room.true-raw).1 }
-
-pub put_action-requires : goal.put_action-requires
-put_action-requires c = let room = fits longest c.args.at (length c.args.out.now) c.has_room.ensures c.if-not-has_room.false-raw in omega arith
-
 pub returns : goal.returns
-returns c = let room = fits longest c.args.at (length c.args.out.now) c.has_room.ensures c.if-not-has_room.false-raw in let p = put_in_room longest room c.put_action.ensures.puts in record { upper_bound = omega arith; value = p.0; out_after = p.1 }
+returns c =
+    let new = c.new-line.ensures in
+    let done = c.action.ensures in
+    let p = all_put longest c.args.at c.args.out.now (action_line c.args.a) c.new-line.result c.action.new.self c.has_room.ensures c.if-not-has_room.false done.short new.starts new.holds new.same_reference done.writes c.out-1.given.1.1 in
+    record { upper_bound = omega arith; value = c.end.ensures ∙ p.1; out_after = p.2 }

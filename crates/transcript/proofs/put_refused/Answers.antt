@@ -1,33 +1,14 @@
+use Rattle.std.proofs.Common.{arith, ◌∙◌}
 use Rattle.transcript.specs.Room.{longest}
-use lib.ListN.{length}
+use Rattle.transcript.proofs.Writes.{all_put, pieces}
 use Rattle.transcript.specs.Lines.{refused_line}
-use Rattle.transcript.proofs.Rooms.{fits, put_in_room, no_room}
-use Rattle.transcript.proofs.Puts.{and_then}
-use native.Mathlib.Omega.{arith}
+use Rattle.transcript.proofs.Lengths.{refused_short}
 use Rattle.transcript.proofs.put_refused.Goals as goal
-
-pub returns-then-not-has_room : goal.returns-then-not-has_room
-returns-then-not-has_room c = record { upper_bound = omega arith; value = (no_room longest c.args.out.now c.args.at _ c.has_room.ensures c.if-not-has_room.true-raw).0; out_after = (no_room longest c.args.out.now c.args.at _ c.has_room.ensures c.if-not-has_room.true-raw).1 }
-
-pub put_word-a-requires : goal.put_word-a-requires
-put_word-a-requires c = let room = fits longest c.args.at (length c.args.out.now) c.has_room.ensures c.if-not-has_room.false-raw in omega arith
-
-pub put_u64-b-requires : goal.put_u64-b-requires
-put_u64-b-requires c = let room = fits longest c.args.at (length c.args.out.now) c.has_room.ensures c.if-not-has_room.false-raw in omega arith
-
-pub put_byte-c-requires : goal.put_byte-c-requires
-put_byte-c-requires c = let room = fits longest c.args.at (length c.args.out.now) c.has_room.ensures c.if-not-has_room.false-raw in omega arith
-
-pub put_u8-d-requires : goal.put_u8-d-requires
-put_u8-d-requires c = let room = fits longest c.args.at (length c.args.out.now) c.has_room.ensures c.if-not-has_room.false-raw in omega arith
-
-pub put_byte-requires : goal.put_byte-requires
-put_byte-requires c = let room = fits longest c.args.at (length c.args.out.now) c.has_room.ensures c.if-not-has_room.false-raw in omega arith
 
 pub returns : goal.returns
 unfolding refused_line
-returns c = let room = fits longest c.args.at (length c.args.out.now) c.has_room.ensures c.if-not-has_room.false-raw in let p = put_in_room longest room (and_then c.put_word-a.ensures
-    (and_then c.put_u64-b.ensures.puts
-    (and_then c.put_byte-c.ensures
-    (and_then c.put_u8-d.ensures.puts
-    c.put_byte.ensures)))) in record { upper_bound = omega arith; value = p.0; out_after = p.1 }
+returns c =
+    let new = c.new-line.ensures in
+    let short = refused_short c.args.accepted c.args.number (omega arith) (omega arith) in
+    let p = all_put longest c.args.at c.args.out.now (refused_line c.args.accepted c.args.number) c.new-line.result c.byte-2.new.self c.has_room.ensures c.if-not-has_room.false short new.starts new.holds new.same_reference (grind (arith, pieces)) c.out-1.given.1.1 in
+    record { upper_bound = omega arith; value = c.end.ensures ∙ p.1; out_after = p.2 }

@@ -1,26 +1,14 @@
-use native.Mathlib.Omega.{arith}
-use Rattle.transcript.proofs.Puts.{and_then}
-use Rattle.transcript.proofs.Rooms.{fits, put_in_room, no_room}
-use Rattle.transcript.specs.Lines.{span_line}
+use Rattle.std.proofs.Common.{arith, ◌∙◌}
 use Rattle.transcript.specs.Room.{longest}
-use lib.ListN.{length}
+use Rattle.transcript.proofs.Writes.{all_put, pieces}
+use Rattle.transcript.specs.Lines.{span_line}
+use Rattle.transcript.proofs.Lengths.{span_short}
 use Rattle.transcript.proofs.put_span.Goals as goal
-
-pub returns-then-not-has_room : goal.returns-then-not-has_room
-returns-then-not-has_room c = record { upper_bound = omega arith; value = (no_room longest c.args.out.now c.args.at _ c.has_room.ensures c.if-not-has_room.true-raw).0; out_after = (no_room longest c.args.out.now c.args.at _ c.has_room.ensures c.if-not-has_room.true-raw).1 }
-
-pub put_u64-a-requires : goal.put_u64-a-requires
-put_u64-a-requires c = let room = fits longest c.args.at (length c.args.out.now) c.has_room.ensures c.if-not-has_room.false-raw in omega arith
-
-pub put_byte-b-requires : goal.put_byte-b-requires
-put_byte-b-requires c = let room = fits longest c.args.at (length c.args.out.now) c.has_room.ensures c.if-not-has_room.false-raw in omega arith
-
-pub put_u32-c-requires : goal.put_u32-c-requires
-put_u32-c-requires c = let room = fits longest c.args.at (length c.args.out.now) c.has_room.ensures c.if-not-has_room.false-raw in omega arith
-
-pub put_byte-requires : goal.put_byte-requires
-put_byte-requires c = let room = fits longest c.args.at (length c.args.out.now) c.has_room.ensures c.if-not-has_room.false-raw in omega arith
 
 pub returns : goal.returns
 unfolding span_line
-returns c = let room = fits longest c.args.at (length c.args.out.now) c.has_room.ensures c.if-not-has_room.false-raw in let p = put_in_room longest room (and_then c.put_u64-a.ensures.puts (and_then c.put_byte-b.ensures (and_then c.put_u32-c.ensures.puts c.put_byte.ensures))) in record { upper_bound = omega arith; value = p.0; out_after = p.1 }
+returns c =
+    let new = c.new-text.ensures in
+    let short = span_short c.args.line c.args.times (omega arith) (omega arith) in
+    let p = all_put longest c.args.at c.args.out.now (span_line c.args.line c.args.times) c.new-text.result c.byte-2.new.self c.has_room.ensures c.if-not-has_room.false short new.starts new.holds new.same_reference (grind (arith, pieces)) c.out-1.given.1.1 in
+    record { upper_bound = omega arith; value = c.end.ensures ∙ p.1; out_after = p.2 }

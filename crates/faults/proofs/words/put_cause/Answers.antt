@@ -1,56 +1,74 @@
-use native.Mathlib.Omega.{arith}
-use Rattle.transcript.proofs.Puts.{and_then, puts_none}
+use Rattle.std.proofs.Common.{arith}
+use mathlib.Core.Path.{refl}
+use Prim.Native.Nat.{ℕ}
+use mathlib.Core.Path.{◌≡◌}
+use mathlib.Core.List.{List, ◌++◌, append_assoc}
+use Rattle.transcript.specs.declared.writer.Line.{Line}
+use Rattle.transcript.specs.Writer.{written}
+use Rattle.transcript.proofs.Writes.{written_written}
+use Rattle.faults.specs.declared.Cause.TheVariants as C
 use Rattle.faults.specs.Faults.{cause_words}
+use Rattle.faults.proofs.Lengths.{cause_short}
 use Rattle.faults.proofs.words.put_cause.Goals as goal
 
-pub returns-in-Plain : goal.returns-in-Plain
-unfolding cause_words
-returns-in-Plain c = record { upper_bound = omega arith; puts = rw c.in-Plain.is (puts_none _ _) }
+four_written : (l : Line) (s t u v : List ℕ) → written (written (written (written l s) t) u) v ≡ written l (s ++ (t ++ (u ++ v)))
+four_written l s t u v = simp (written_written, append_assoc)
 
-pub returns-in-Quoted : goal.returns-in-Quoted
-unfolding cause_words
-returns-in-Quoted c = record { upper_bound = omega arith; puts = rw c.in-Quoted.is (and_then c.put_word-b.ensures c.put_quoted.ensures.puts) }
+pub returns-in-Plain-clause-short : goal.returns-in-Plain-clause-short
+returns-in-Plain-clause-short c = rw c.in-Plain.is (cause_short C.Plain c.args.w.now tt)
 
-pub returns-in-Field : goal.returns-in-Field
-unfolding cause_words
-returns-in-Field c = record { upper_bound = omega arith; puts = rw (c.in-Field.is, ← c.field_of.ensures) c.put_word_of.ensures.puts }
+pub returns-in-Quoted-clause-short : goal.returns-in-Quoted-clause-short
+returns-in-Quoted-clause-short c = rw c.in-Quoted.is (cause_short C.Quoted c.args.w.now tt)
 
-pub returns-in-Large : goal.returns-in-Large
-unfolding cause_words
-returns-in-Large c = record { upper_bound = omega arith; puts = rw (c.in-Large.is, ← c.field_of-field.ensures) (and_then c.put_word_of-b.ensures.puts c.put_most.ensures.puts) }
+pub returns-in-Field-clause-short : goal.returns-in-Field-clause-short
+returns-in-Field-clause-short c = rw c.in-Field.is (cause_short (C.Field c.in-Field.kind c.in-Field.place) c.args.w.now tt)
 
-pub returns-in-Missing : goal.returns-in-Missing
-unfolding cause_words
-returns-in-Missing c = record { upper_bound = omega arith; puts = rw (c.in-Missing.is, ← c.field_of-in-Missing.ensures) (and_then c.put_word-b-in-Missing.ensures c.put_field.ensures.puts) }
+pub returns-in-Large-clause-short : goal.returns-in-Large-clause-short
+returns-in-Large-clause-short c = rw c.in-Large.is (cause_short (C.Large c.in-Large.kind c.in-Large.place) c.args.w.now tt)
 
-pub returns-in-Size : goal.returns-in-Size
-unfolding cause_words
-returns-in-Size c = record { upper_bound = omega arith; puts = rw c.in-Size.is c.put_said.ensures.puts }
+pub returns-in-Missing-clause-short : goal.returns-in-Missing-clause-short
+returns-in-Missing-clause-short c = rw c.in-Missing.is (cause_short (C.Missing c.in-Missing.kind c.in-Missing.place) c.args.w.now tt)
 
-pub returns-in-Node : goal.returns-in-Node
-unfolding cause_words
-returns-in-Node c = record { upper_bound = omega arith; puts = rw (c.in-Node.is, ← c.last_of.ensures) (and_then c.put_said_with-b.ensures.puts (and_then c.put_word-c.ensures c.put_u8.ensures.puts)) }
+pub returns-in-Size-clause-short : goal.returns-in-Size-clause-short
+returns-in-Size-clause-short c = rw c.in-Size.is (cause_short C.Size c.args.w.now tt)
 
-pub returns-in-Address : goal.returns-in-Address
-unfolding cause_words
-returns-in-Address c = record { upper_bound = omega arith; puts = rw (c.in-Address.is, ← c.last_of-in-Address.ensures) (and_then c.put_said_with-b-in-Address.ensures.puts (and_then c.put_word-c-in-Address.ensures (and_then c.put_u8-d.ensures.puts c.put_word.ensures))) }
+pub returns-in-Node-clause-short : goal.returns-in-Node-clause-short
+returns-in-Node-clause-short c = rw c.in-Node.is (cause_short (C.Node c.in-Node.node c.in-Node.n) c.args.w.now (omega arith, omega arith))
 
-pub returns-in-Label : goal.returns-in-Label
-unfolding cause_words
-returns-in-Label c = record { upper_bound = omega arith; puts = rw c.in-Label.is (and_then c.put_said_with-b-in-Label.ensures.puts c.put_word-in-Label.ensures) }
+pub returns-in-Address-clause-short : goal.returns-in-Address-clause-short
+returns-in-Address-clause-short c = rw c.in-Address.is (cause_short (C.Address c.in-Address.address c.in-Address.n) c.args.w.now (omega arith, omega arith))
 
-pub returns-in-Own : goal.returns-in-Own
-unfolding cause_words
-returns-in-Own c = record { upper_bound = omega arith; puts = rw c.in-Own.is (and_then c.put_said_with-b-in-Own.ensures.puts c.put_word-in-Own.ensures) }
+pub returns-in-Label-clause-short : goal.returns-in-Label-clause-short
+returns-in-Label-clause-short c = rw c.in-Label.is (cause_short (C.Label c.in-Label.label) c.args.w.now (omega arith))
 
-pub returns-in-Ack : goal.returns-in-Ack
-unfolding cause_words
-returns-in-Ack c = record { upper_bound = omega arith; puts = rw c.in-Ack.is (and_then c.put_said_with-b-in-Ack.ensures.puts c.put_word-in-Ack.ensures) }
+pub returns-in-Own-clause-short : goal.returns-in-Own-clause-short
+returns-in-Own-clause-short c = rw c.in-Own.is (cause_short (C.Own c.in-Own.node) c.args.w.now (omega arith))
 
-pub returns-in-Closed : goal.returns-in-Closed
-unfolding cause_words
-returns-in-Closed c = record { upper_bound = omega arith; puts = rw c.in-Closed.is c.put_said-in-Closed.ensures.puts }
+pub returns-in-Ack-clause-short : goal.returns-in-Ack-clause-short
+returns-in-Ack-clause-short c = rw c.in-Ack.is (cause_short (C.Ack c.in-Ack.ack) c.args.w.now (omega arith))
 
-pub returns-in-Depth : goal.returns-in-Depth
+pub returns-in-Closed-clause-short : goal.returns-in-Closed-clause-short
+returns-in-Closed-clause-short c = rw c.in-Closed.is (cause_short C.Closed c.args.w.now tt)
+
+pub returns-in-Depth-clause-short : goal.returns-in-Depth-clause-short
+returns-in-Depth-clause-short c = rw c.in-Depth.is (cause_short C.Depth c.args.w.now tt)
+
+pub returns-in-Plain-clause-writes : goal.returns-in-Plain-clause-writes
+unfolding cause_words written
+returns-in-Plain-clause-writes c = rw c.in-Plain.is
+
+pub returns-in-Address-clause-writes : goal.returns-in-Address-clause-writes
 unfolding cause_words
-returns-in-Depth c = record { upper_bound = omega arith; puts = rw c.in-Depth.is c.put_said-in-Depth.ensures.puts }
+returns-in-Address-clause-writes c = rw (c.in-Address.is, c.word-in-Address-2.ensures, c.figure-in-Address.ensures, c.last_of-in-Address.ensures, c.word-in-Address.ensures, c.put_said_with-in-Address.ensures) (four_written _ _ _ _ _)
+
+pub returns-in-Label-clause-writes : goal.returns-in-Label-clause-writes
+unfolding cause_words
+returns-in-Label-clause-writes c = rw (c.in-Label.is, c.word-in-Label.ensures, c.put_said_with-in-Label.ensures) (written_written _ _ _)
+
+pub returns-in-Ack-clause-writes : goal.returns-in-Ack-clause-writes
+unfolding cause_words
+returns-in-Ack-clause-writes c = rw (c.in-Ack.is, c.word-in-Ack.ensures, c.put_said_with-in-Ack.ensures) (written_written _ _ _)
+
+pub returns-in-Depth-clause-writes : goal.returns-in-Depth-clause-writes
+unfolding cause_words
+returns-in-Depth-clause-writes c = rw c.in-Depth.is c.put_said-in-Depth.ensures

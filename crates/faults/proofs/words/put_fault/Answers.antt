@@ -1,8 +1,6 @@
-use Rattle.faults.specs.Faults.{fault_line}
-use Rattle.transcript.proofs.Puts.{and_then}
-use native.Mathlib.Omega.{arith}
+use Rattle.std.proofs.Common.{arith}
+use Rattle.faults.proofs.Lengths.{line_short}
 use Rattle.faults.proofs.words.put_fault.Goals as goal
 
-pub returns : goal.returns
-unfolding fault_line
-returns c = record { upper_bound = omega arith; puts = and_then c.put_word-b.ensures (and_then c.put_u64-c.ensures.puts (and_then c.put_word-d.ensures (and_then c.put_fault_words-e.ensures.puts (and_then c.put_cause-f.ensures.puts (c.put_byte.ensures))))) }
+pub returns-clause-short : goal.returns-clause-short
+returns-clause-short c = line_short c.args.number c.args.fault c.args.cause c.args.w.now (omega arith) c.put_cause.ensures.short

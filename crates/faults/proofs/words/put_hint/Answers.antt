@@ -1,26 +1,16 @@
-use Rattle.transcript.proofs.Puts.{puts_none}
-use Rattle.faults.specs.Faults.{hint}
-use borrow.Author.Tests.{not-true, not-false, lt-ltb, le-ltb}
-use native.Mathlib.Omega.{arith}
 use mathlib.Core.Path.{sym, ◌∙◌}
+use borrow.Author.Tests.{le-ltb}
+use Rattle.transcript.specs.Writer.{written}
+use Rattle.faults.specs.Faults.{hint}
+use Rattle.faults.proofs.words.put_hint.Goals.{else-has_star-via-then-has_star+else-w-gt1, else-has_star-via-else-has_star}
 use Rattle.faults.proofs.words.put_hint.Goals as goal
 
-pub returns-then-has : goal.returns-then-has
-unfolding hint
-returns-then-has c = record { upper_bound = omega arith; puts = rw (sym c.has.ensures ∙ c.if-has.true) c.put_word.ensures }
-
-pub returns-then-has-2 : goal.returns-then-has-2
-unfolding hint
-returns-then-has-2 c = record { upper_bound = omega arith; puts = rw (sym c.has.ensures ∙ c.if-has.false, sym c.has-2.ensures ∙ c.if-has-2.true) c.put_word-then-has-2.ensures }
-
-pub returns-then-not-has : goal.returns-then-not-has
-unfolding hint
-returns-then-not-has c = record { upper_bound = omega arith; puts = rw (sym c.has.ensures ∙ c.if-has.false, sym c.has-2.ensures ∙ c.if-has-2.false, sym c.has-3.ensures ∙ not-true _ c.if-not-has.true-raw) (puts_none _ _) }
-
-pub returns-then-w-gt1 : goal.returns-then-w-gt1
-unfolding hint
-returns-then-w-gt1 c = record { upper_bound = omega arith; puts = rw (sym c.has.ensures ∙ c.if-has.false, sym c.has-2.ensures ∙ c.if-has-2.false, sym c.has-3.ensures ∙ not-false _ c.if-not-has.false-raw, lt-ltb _ _ c.if-w-gt1.true) c.put_word-then-w-gt1.ensures }
-
-pub returns : goal.returns
-unfolding hint
-returns c = record { upper_bound = omega arith; puts = rw (sym c.has.ensures ∙ c.if-has.false, sym c.has-2.ensures ∙ c.if-has-2.false, sym c.has-3.ensures ∙ not-false _ c.if-not-has.false-raw, le-ltb _ _ c.if-w-gt1.false) (puts_none _ _) }
+pub returns-else-has_star : goal.returns-else-has_star
+unfolding hint written
+returns-else-has_star c =
+    let plain = sym c.has_control.ensures ∙ c.if-has_control.false in
+    let breaks = sym c.has_no_break.ensures ∙ c.if-has_no_break.false in
+    elim c.else-has_star.branch [
+      else-has_star-via-then-has_star+else-w-gt1 w ↦ rw (plain, breaks, sym c.has_star.ensures ∙ w.if-has_star.true, le-ltb _ _ w.if-w-gt1.false)
+    | else-has_star-via-else-has_star w ↦ rw (plain, breaks, sym c.has_star.ensures ∙ w.if-has_star.false)
+    ]
