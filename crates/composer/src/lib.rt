@@ -149,27 +149,22 @@ fn flush(c: Composer, size: usize, out: &mut [u8; 512]) -> Wrote
 
 // Puts the action under way once into the block under way. The 31st record fills the block, which is then written.
 #[tactic(auto, unfolding(crate::specs::Composer::put_of, crate::specs::Composer::held_after))]
-pub fn put(c: Composer, out: &mut [u8; 512]) -> Wrote
+pub fn put(mut c: Composer, out: &mut [u8; 512]) -> Wrote
     ensures value { result ≡ put_of c }
     ensures out_after { out.new ≡ put_held c out.old }
 {
     if c.fault.is_some() || c.left == 0 {
         return quiet(c);
     }
-    let mut records = c.records;
-    record::write_action(&mut records, 16 * c.count as usize, c.action);
-    let stored = Composer {
-        records,
-        left: c.left - 1,
-        ..c
-    };
+    let at = 16 * c.count as usize;
+    let action = c.action;
+    record::write_action(&mut c.records, at, action);
+    c.left -= 1;
     if c.count < 30 {
-        return quiet(Composer {
-            count: c.count + 1,
-            ..stored
-        });
+        c.count += 1;
+        return quiet(c);
     }
-    flush(stored, 496, out)
+    flush(c, 496, out)
 }
 
 fn used_by(count: u8) -> usize
