@@ -104,6 +104,7 @@ fn carry_out(
 }
 
 // A record carried out on a bus that is handed over. The copy that is changed is made here alone: each further place that hands the bus on would copy it whole.
+// (`Ready` stands at `aiming::aim`, `carry_out` and this: of loose fields, a lent bus and a bus handed over, so one type for the three would be no plainer.)
 fn hand_on(b: Bus, d: Result<Move, Refusal>) -> Played
     requires { Ready b.n b.phase (mark b.pending) d }
     ensures { seen result ≡ step_with (view b) d }

@@ -15,10 +15,6 @@ use Rattle.deciding.specs.Marks.{unmarked, first_marked}
 pub mark_set : (l : List Bool) (i : ℕ) (a : Bool) → i < length l → mark (set l i a) ≡ upd (mark l) i a
 mark_set l i a h = fun_ext (get_d_set l i a false h)
 
-pub lowest_more : (f : ℕ → Bool) (i d : ℕ) → 0 < i → lowest f i d ≡ lowest f (i - 1) (cond (f (i - 1)) (i - 1) d)
-lowest_more f zero d h = let z : ◌≡◌ {A = ℕ} 0 1 = omega arith in cc
-lowest_more f (suc k) d h = let e : suc k - 1 ≡ k = omega arith in rw e
-
 -- in an array of 63 marks no node from 63 on is marked
 past : (l : List Bool) (k : ℕ) → length l ≡ 63 → 63 ≤ k → mark l k ≡ false
 past l k s h = get_or-eq_default l false (omega arith)

@@ -1,9 +1,8 @@
 // A node's record with its four marks: taken together and taken apart.
 ghost use Rattle.std.specs.Prelude.{◌≡◌};
-ghost use Rattle.charts.specs.State.{is_empty};
 ghost use Rattle.charts.specs.View.{cell_of};
 
-use charts::{Cell, Node, Packet};
+use charts::{Cell, Node};
 
 pub fn cell_of(x: Node, won: bool, pending: bool, holder: bool, misled: bool) -> Cell
     ensures { result ≡ cell_of x won pending holder misled }
@@ -27,10 +26,4 @@ pub fn node_of(c: Cell) -> Node
         buffer: c.buffer,
         sending: c.sending,
     }
-}
-
-pub fn is_empty(buffer: Option<Packet>) -> bool
-    ensures { result ≡ is_empty buffer }
-{
-    buffer.is_none()
 }

@@ -10,7 +10,6 @@ use crate::plans::Plan;
 use charts::{Cell, Move, Phase, Refusal};
 
 mod actions;
-pub mod bools;
 pub mod cells;
 mod decide;
 pub mod marks;
