@@ -1,10 +1,14 @@
 -- The answers of the search, by its lengths one after the other. Assumes nothing.
-use mathlib.Core.Path.{◌≡◌, refl, sym, ap, ap₂, subst, ◌∙◌}
+use mathlib.Core.Path.{◌≡◌, refl, sym, ap, ap₂, subst}
 use mathlib.Core.Bool.{Bool, true, false, cond, ◌&&◌, not}
 use Prim.Native.Nat.{ℕ, ◌+◌, ◌<◌, ◌≤◌}
 use native.Mathlib.Omega.{arith}
 use lib.Dec.{eqb}
-use borrow.Author.Tests.{eqb-true, eqb-false}
+use borrow.Author.Tests.{eqb-false}
+use Rattle.std.proofs.Common.{below_more}
+use Rattle.std.specs.Prelude.{Some, None, Ok}
+use mathlib.Core.List.{List}
+use Rattle.charts.specs.declared.Action.{Action}
 use Rattle.charts.specs.declared.Report.TheVariants.{Silent}
 use Rattle.charts.specs.declared.Word.{Word}
 use Rattle.charts.specs.declared.Word.TheVariants as W
@@ -12,10 +16,9 @@ use Rattle.charts.specs.declared.Question.{Question}
 use Rattle.charts.specs.Numbers as N
 use Rattle.charts.specs.State.{State}
 use Rattle.charts.specs.Valid.{valid}
-use Rattle.charts.specs.Routes.{numbered, gives, route_number, refused_by, no_route, route, HoldsFirst, Answers, refused, none, found}
-use Rattle.charts.proofs.Tools.{by_test}
-use Rattle.routes.specs.declared.search.Trail.{Trail}
+use Rattle.charts.specs.Routes.{numbered, gives, route_number, no_route, route, HoldsFirst, Answers, none, found}
 use Rattle.routes.specs.Search.{searched, trail_of}
+use Rattle.routes.proofs.Deeper.{trail_found, trail_none}
 use Rattle.routes.proofs.Searches.{search_leads}
 use Rattle.routes.proofs.First.{found-route, no_route_lem, found_first}
 
@@ -40,36 +43,31 @@ accepted_valid s q d e = go (valid s) _ e
     go true k e = refl
     go false k e = absurd (eqb-false N.not_valid N.accepted refl e)
 
-pub answer_refused : (s : State) (q : Question) (d k : ℕ) → k ≡ route_number s q d → ((k ≡ N.accepted) → ⊥) → Answers s q d (refused_by k)
-answer_refused s q d k e f = subst (λ k. Answers s q d (refused_by k)) (sym e) (refused (λ z. f (e ∙ z)))
-
 module _ (s : State) (q : Question) (d : ℕ) (e : route_number s q d ≡ N.accepted) where
-  -- no route of at most k records
-  abbrev pub NoneTo : ℕ → Type 0
-  NoneTo k = (j : ℕ) → j ≤ k → (searched j s Silent q).found ≡ false
+  -- no route of fewer than k records
+  abbrev pub NoneBelow : ℕ → Type 0
+  NoneBelow k = (j : ℕ) → j < k → (searched j s Silent q).found ≡ false
 
-  pub none_empty : NoneTo 0
+  pub none_empty : NoneBelow 1
   unfolding searched gives
   none_empty j h = subst (λ j. (searched j s Silent q).found ≡ false) here (ap (λ b. b && eqb 0 q.node) (is_kind_lem q.word))
     where
       here : 0 ≡ j
       here = omega (arith, h)
 
-  pub none_next : (k : ℕ) (t : Trail) → NoneTo k → t ≡ trail_of (searched (k + 1) s Silent q) → t.found ≡ false → NoneTo (k + 1)
-  none_next k t f p o j h = by_test (eqb j (k + 1)) (λ z. subst (λ j. (searched j s Silent q).found ≡ false) (sym (eqb-true j (k + 1) z)) (sym (ap (λ t. t.found) p) ∙ o)) (λ z. f j (omega (arith, h, eqb-false j (k + 1) z)))
+  pub none_next : (k : ℕ) → NoneBelow k → None ≡ trail_of (searched k s Silent q) → NoneBelow (k + 1)
+  none_next k f o = below_more _ k f (trail_none (searched k s Silent q) o)
 
   -- a route found, and the answer that holds it
-  answer_is : (k : ℕ) (t : Trail) → t ≡ trail_of (searched k s Silent q) → (searched k s Silent q).found ≡ true → route (searched k s Silent q).records ≡ record { number = N.accepted; found = true; count = k; actions = t.actions }
-  answer_is k t p f = ap₂ (λ k l. record { number = N.accepted; found = true; count = k; actions = l }) (search_leads k s Silent q f).size (sym (ap (λ t. t.actions) p))
+  answer_is : (k : ℕ) (l : List Action) → Some l ≡ trail_of (searched k s Silent q) → route (searched k s Silent q).records ≡ Ok (Some (record { count = k; actions = l }))
+  answer_is k l p = let f = trail_found (searched k s Silent q) l p in ap₂ (λ k l. Ok (Some (record { count = k; actions = l }))) (search_leads k s Silent q f.0).size (sym f.1)
 
-  pub answer_none : NoneTo d → Answers s q d no_route
-  answer_none f = none e (no_route_lem s q d f)
+  pub answer_none : NoneBelow (d + 1) → Answers s q d no_route
+  answer_none f = none e (no_route_lem s q d (λ j h. f j (omega arith)))
 
-  pub answer_found : (k : ℕ) → k ≤ d → (t : Trail) → t ≡ trail_of (searched k s Silent q) → t.found ≡ true → Answers s q d (record { number = N.accepted; found = true; count = k; actions = t.actions })
-  answer_found k h t p o = let f = sym (ap (λ t. t.found) p) ∙ o in subst (Answers s q d) (answer_is k t p f) (found e (found-route s q d k h f))
+  pub answer_found : (k : ℕ) → k ≤ d → (l : List Action) → Some l ≡ trail_of (searched k s Silent q) → Answers s q d (Ok (Some (record { count = k; actions = l })))
+  answer_found k h l p = subst (Answers s q d) (answer_is k l p) (found e (found-route s q d k h (trail_found (searched k s Silent q) l p).0))
 
   -- and with no shorter one it is the first
-  pub holds_first : (k : ℕ) → k < d → (t : Trail) → NoneTo k → t ≡ trail_of (searched (k + 1) s Silent q) → t.found ≡ true → HoldsFirst s q d (record { number = N.accepted; found = true; count = k + 1; actions = t.actions })
-  holds_first k h t shorter p o =
-      let f = sym (ap (λ t. t.found) p) ∙ o in
-      record { list = (searched (k + 1) s Silent q).records; first = found_first s q d (k + 1) (omega (arith, h)) (λ j l. shorter j (omega (arith, l))) f; holds = sym (answer_is (k + 1) t p f) }
+  pub holds_first : (k : ℕ) → k ≤ d → (l : List Action) → NoneBelow k → Some l ≡ trail_of (searched k s Silent q) → HoldsFirst s q d (Ok (Some (record { count = k; actions = l })))
+  holds_first k h l shorter p = record { list = (searched k s Silent q).records; first = found_first s q d k h shorter (trail_found (searched k s Silent q) l p).0; holds = sym (answer_is k l p) }

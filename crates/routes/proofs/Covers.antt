@@ -12,15 +12,14 @@ use Rattle.charts.specs.declared.Phase.TheVariants.{Idle, Busy, Delivering, Gran
 use Rattle.charts.specs.declared.Way.TheVariants.{Pass, Lose, Change}
 use Rattle.charts.specs.declared.Cell.{Cell}
 use Rattle.charts.specs.declared.Action.{Action}
-use Rattle.charts.specs.declared.Decoded.{Decoded}
-use Rattle.charts.specs.declared.Decoded.TheVariants.{Refused, Accepted}
-use Rattle.charts.specs.Numbers as N
+use Rattle.std.specs.Prelude.{Ok, Err}
+use Rattle.charts.specs.declared.Refusal.TheVariants as Rf
 use Rattle.charts.specs.Signals.{everybody}
 use Rattle.charts.specs.Reception.{hears}
 use Rattle.charts.specs.Arrivals.{arrives}
 use Rattle.charts.specs.State.{State}
 use Rattle.charts.specs.Actions.{Outcome, closed, does, when, carry, clock, grant, gap, outcome}
-use Rattle.charts.specs.Records.{is_kind, names_node, names_address, names_answer, names_packet, clean, named, is_address, move_of, read}
+use Rattle.charts.specs.Records.{Decoded, is_kind, names_node, names_address, names_answer, names_packet, clean, named, is_address, move_of, read}
 use Rattle.charts.specs.Valid.{valid}
 use Rattle.charts.specs.Step.{carry_out, about, may_act, outcome_of, comes_to, look, step_with, step, is_accepted}
 use Rattle.charts.specs.Routes.{is_bus_event}
@@ -50,20 +49,20 @@ when_does true o e = e
 when_does false o e = never e
 
 abbrev is_taken : Decoded → Bool
-is_taken (Refused k) = false
-is_taken (Accepted m) = true
+is_taken (Err k) = false
+is_taken (Ok m) = true
 
 -- what is accepted was handed in with a valid state, and its action has its fields in range and is not closed
 pub open_valid : (s : State) (a : Action) → is_accepted (step s a) ≡ true → valid s ≡ true
 unfolding step look
-open_valid s a e = by_test (valid s) (λ v. v) (λ v. never (sym (ap (λ b. is_accepted (step_with s (cond b (read s.n a) (Refused N.not_valid)))) v) ∙ e))
+open_valid s a e = by_test (valid s) (λ v. v) (λ v. never (sym (ap (λ b. is_accepted (step_with s (cond b (read s.n a) (Err Rf.NotValid)))) v) ∙ e))
 
 is_known : (s : State) (a : Action) → is_accepted (step s a) ≡ true → Known s.n (move_of a)
 is_known s a e = go (read s.n a) (decodes s.n a) (open_reads s a e)
   where
-    go : (d : Decoded) → Decodes s.n a d → d ≡ Accepted (move_of a) → Known s.n (move_of a)
-    go (Refused k) (turned z) q = never (ap is_taken q)
-    go (Accepted m) (taken k) q = k
+    go : (d : Decoded) → Decodes s.n a d → d ≡ Ok (move_of a) → Known s.n (move_of a)
+    go (Err k) turned q = never (ap is_taken q)
+    go (Ok m) (taken k) q = k
 
 acts_on : (s : State) (a : Action) → is_accepted (step s a) ≡ true → is_does (outcome_of s (move_of a)) ≡ true
 acts_on s a e =
@@ -163,7 +162,7 @@ unnamed true x e q = never (sym q)
 unnamed false x e q = eqb-true x 0 e
 
 -- what is open is clean
-taken_clean : (x y : Bool) (d : Decoded) → is_taken (cond (not x) (Refused N.wrong_kind) (cond (not y) (Refused N.stray_field) d)) ≡ true → y ≡ true
+taken_clean : (x y : Bool) (d : Decoded) → is_taken (cond (not x) (Err Rf.WrongKind) (cond (not y) (Err Rf.StrayField) d)) ≡ true → y ≡ true
 taken_clean true true d e = refl
 taken_clean true false d e = never e
 taken_clean false y d e = never e

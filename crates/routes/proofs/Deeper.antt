@@ -1,10 +1,10 @@
 -- The search's loop over the choices, one after the other. Assumes nothing.
 use mathlib.Core.Path.{◌≡◌, refl, sym, ap, ap₂, ◌∙◌}
-use mathlib.Core.Bool.{true, false, cond}
-use mathlib.Core.List.{[], ◌∷◌}
+use mathlib.Core.Bool.{Bool, true, false, cond}
+use mathlib.Core.List.{List, [], ◌∷◌}
 use Prim.Native.Nat.{ℕ, zero, suc, ◌+◌, ◌-◌, ◌<◌, ◌≤◌}
 use native.Mathlib.Omega.{arith}
-use borrow.Author.Tests.{eq-eqb, ne_eqb}
+use Rattle.std.specs.Prelude.{Some, None}
 use Rattle.charts.specs.declared.Report.{Report}
 use Rattle.charts.specs.declared.Action.{Action}
 use Rattle.charts.specs.declared.Question.{Question}
@@ -18,7 +18,6 @@ use Rattle.charts.specs.View.{view, seen}
 use Rattle.bus.specs.Advance.{advance_of}
 use Rattle.bus.proofs.Advances.{advance_is_step, advance_valid}
 use Rattle.bus.proofs.ViewLaws.{view_n, view_phase}
-use Rattle.routes.specs.declared.search.Trail.{Trail}
 use Rattle.routes.specs.Choices.{choices, choice}
 use Rattle.routes.specs.Search.{Found, none, begun, tried, first_from, searched, following, prepended, trail_of}
 use Rattle.routes.proofs.Trails.{places_after}
@@ -66,20 +65,38 @@ module _ (f : ℕ → Found) (m k : ℕ) (inv : first_from f m 0 ≡ first_from 
       less : m - k ≡ 0
       less = omega (arith, l)
 
--- the trail of a route that an action begins
-trail_begun : (a : Action) (y : Found) → y.found ≡ true → prepended a (trail_of y) ≡ trail_of (begun a y)
-trail_begun a y o = ap (λ l. record { found = y.found; actions = l }) (places_after a y.records ∙ ap (λ b. in_places (cond b (a ∷ y.records) [])) (sym o))
+-- the trail of a route, and of one that an action begins
+pub trail_found : (y : Found) (l : List Action) → Some l ≡ trail_of y → (y.found ≡ true) × (l ≡ in_places y.records)
+trail_found y l e = go y.found refl
+  where
+    go : (b : Bool) → y.found ≡ b → (y.found ≡ true) × (l ≡ in_places y.records)
+    go true f = let h : Some l ≡ Some (in_places y.records) = rw f at e in (f, cc)
+    go false f = let h : Some l ≡ None = rw f at e in absurd cc
 
--- the code's turn with the k-th choice a, which the bus answered by r
-module _ (b : Bus) (q : Question) (left count k : ℕ) (v : valid (view b) ≡ true) (some : (left ≡ 0) → ⊥) (all : count ≡ choices b.n b.phase)
-    (inv : first_from (following (left - 1) (view b) q) count 0 ≡ first_from (following (left - 1) (view b) q) (count - k) k) where
+pub trail_none : (y : Found) → None ≡ trail_of y → y.found ≡ false
+trail_none y e = go y.found refl
+  where
+    go : (b : Bool) → y.found ≡ b → y.found ≡ false
+    go true f = let h : None ≡ Some (in_places y.records) = rw f at e in absurd cc
+    go false f = f
+
+trail_begun : (a : Action) (y : Found) (l : List Action) → Some l ≡ trail_of y → Some (prepended a l) ≡ trail_of (begun a y)
+trail_begun a y l e = let o = trail_found y l e in
+    ap (λ l. Some (prepended a l)) o.1 ∙ ap Some (places_after a y.records) ∙ sym (ap (λ b. cond b (Some (in_places (cond b (a ∷ y.records) []))) None) o.0)
+
+-- the code's turn with the k-th choice a, which the bus answered by x
+module _ (b : Bus) (q : Question) (left k : ℕ) (v : valid (view b) ≡ true) (some : (left ≡ 0) → ⊥)
+    (inv : first_from (following (left - 1) (view b) q) (choices b.n b.phase) 0 ≡ first_from (following (left - 1) (view b) q) (choices b.n b.phase - k) k) where
   abbrev f : ℕ → Found
   f = following (left - 1) (view b) q
 
-  whole : (r : Report) → searched left (view b) r q ≡ first_from f count 0
-  whole r = search_deeper left (view b) r q some ∙ ap (λ m. first_from f m 0) (ap₂ choices (view_n b) (view_phase b) ∙ sym all)
+  abbrev count : ℕ
+  count = choices b.n b.phase
 
-  pub none_led : (r : Report) → count ≤ k → trail_of none ≡ trail_of (searched left (view b) r q)
+  whole : (r : Report) → searched left (view b) r q ≡ first_from f count 0
+  whole r = search_deeper left (view b) r q some ∙ ap (λ m. first_from f m 0) (ap₂ choices (view_n b) (view_phase b))
+
+  pub none_led : (r : Report) → count ≤ k → None ≡ trail_of (searched left (view b) r q)
   none_led r l = ap trail_of (sym (whole r ∙ no_more f count k inv l))
 
   module _ (l : k < count) (a : Action) (chosen : a ≡ choice b.n b.phase k) (x : Played) (answer : seen x ≡ advance_of (view b) a) where
@@ -93,20 +110,18 @@ module _ (b : Bus) (q : Question) (left count k : ℕ) (v : valid (view b) ≡ t
     stays_valid = ap (λ r. valid r.state) answer ∙ advance_valid (view b) a v
 
     abbrev y : Found
-    y = searched (left - 1) (view x.bus) x.report q
+    y = searched (left - 1) (view x.bus) (seen x).report q
 
-    leads_on : x.number ≡ 0 → f k ≡ begun a y
-    leads_on e = goes_on (left - 1) (view b) q k (seen x) is_step (eq-eqb x.number 0 e) ∙ ap (λ a. begun a y) (sym is_choice)
+    leads_on : is_accepted (seen x) ≡ true → f k ≡ begun a y
+    leads_on o = goes_on (left - 1) (view b) q k (seen x) is_step o ∙ ap (λ a. begun a y) (sym is_choice)
 
     -- it leads to the report: the trail is that of the search
-    pub led : x.number ≡ 0 → (t : Trail) → t ≡ trail_of y → t.found ≡ true → (r : Report) → prepended a t ≡ trail_of (searched left (view b) r q)
-    led e t d o r =
-        let p = sym (ap (λ t. t.found) d) ∙ o in
-        ap (prepended a) d ∙ trail_begun a y p ∙ ap trail_of (sym (whole r ∙ first_found f count k inv (begun a y) l (leads_on e) p))
+    pub led : is_accepted (seen x) ≡ true → (t : List Action) → Some t ≡ trail_of y → (r : Report) → Some (prepended a t) ≡ trail_of (searched left (view b) r q)
+    led e t d r = trail_begun a y t d ∙ ap trail_of (sym (whole r ∙ first_found f count k inv (begun a y) l (leads_on e) (trail_found y t d).0))
 
     -- it does not, or it is refused: the next choice
-    pub not_led : x.number ≡ 0 → (t : Trail) → t ≡ trail_of y → t.found ≡ false → first_from f count 0 ≡ first_from f (count - (k + 1)) (k + 1)
-    not_led e t d o = next_choice f count k inv l (ap (λ x. x.found) (leads_on e) ∙ (sym (ap (λ t. t.found) d) ∙ o))
+    pub not_led : is_accepted (seen x) ≡ true → None ≡ trail_of y → first_from f count 0 ≡ first_from f (count - (k + 1)) (k + 1)
+    not_led e d = next_choice f count k inv l (ap (λ x. x.found) (leads_on e) ∙ trail_none y d)
 
-    pub not_open : ((x.number ≡ 0) → ⊥) → first_from f count 0 ≡ first_from f (count - (k + 1)) (k + 1)
-    not_open e = next_choice f count k inv l (ends-here (left - 1) (view b) q k (seen x) is_step (ne_eqb x.number 0 e))
+    pub not_open : is_accepted (seen x) ≡ false → first_from f count 0 ≡ first_from f (count - (k + 1)) (k + 1)
+    not_open o = next_choice f count k inv l (ends-here (left - 1) (view b) q k (seen x) is_step o)

@@ -1,25 +1,56 @@
 -- The first route: what the search finds is it, there is one only, and the depth has no part in it. Assumes nothing.
 use mathlib.Core.Path.{◌≡◌, refl, sym, ap, subst, ◌∙◌}
 use mathlib.Core.Logic.{⊎_elim}
-use mathlib.Core.Bool.{true, false}
+use mathlib.Core.Bool.{true, false, cond}
 use mathlib.Core.List.{List}
 use Prim.Native.Nat.{ℕ, ◌<◌, ◌≤◌}
 use native.Mathlib.Omega.{arith}
-use lib.Dec.{ltb}
+use lib.Dec.{eqb, ltb}
 use lib.ListN.{length}
-use borrow.Author.Tests.{ltb-true, ltb-false}
+use borrow.Author.Tests.{eq-eqb, ltb-true, ltb-false}
 use Rattle.charts.specs.declared.Report.TheVariants.{Silent}
 use Rattle.charts.specs.declared.Action.{Action}
 use Rattle.charts.specs.declared.Question.{Question}
-use Rattle.charts.specs.declared.Answer.{Answer}
+use Rattle.charts.specs.declared.Refusal.{Refusal}
+use Rattle.charts.specs.declared.Refusal.TheVariants as R
+use Rattle.charts.specs.Numbers.{number_of}
+use Rattle.charts.proofs.Steps.{refuses_it}
+use Rattle.std.specs.Prelude.{Err}
 use Rattle.charts.specs.Numbers as N
 use Rattle.charts.specs.Layout.{records_of}
 use Rattle.charts.specs.State.{State}
-use Rattle.charts.specs.Routes.{IsRoute, precedes, FirstRoute, FirstAnswers, HoldsFirst, route_number, route, Answers, refused, none, found}
+use Rattle.charts.specs.Routes.{Answer, IsRoute, precedes, FirstRoute, FirstAnswers, HoldsFirst, route_number, route, has_route, count_of, Answers, refused, none, found}
 use Rattle.charts.proofs.Tools.{clash, by_test}
 use Rattle.routes.specs.Search.{Found, searched}
 use Rattle.routes.proofs.Order.{before_one, never_before_itself}
 use Rattle.routes.proofs.Searches.{search_leads, Reaches, leads_reached}
+
+-- a refusal by its number
+with_number : ℕ → Refusal
+with_number k =
+    cond (eqb k 1) R.WrongSize (cond (eqb k 2) R.WrongKind (cond (eqb k 3) R.StrayField (cond (eqb k 4) R.WrongNode (cond (eqb k 5) R.WrongAddress (cond (eqb k 6) R.WrongAnswer (cond (eqb k 7) R.NotOpen
+    (cond (eqb k 8) R.WrongLength (cond (eqb k 9) R.WrongCheck (cond (eqb k 10) R.WrongOrder (cond (eqb k 11) R.WrongCount (cond (eqb k 12) R.NotValid (cond (eqb k 13) R.WrongLabel (cond (eqb k 14) R.TooDeep R.ToItself)))))))))))))
+
+by_number : (k : Refusal) → with_number (number_of k) ≡ k
+unfolding with_number
+by_number R.WrongSize = refl
+by_number R.WrongKind = refl
+by_number R.StrayField = refl
+by_number R.WrongNode = refl
+by_number R.WrongAddress = refl
+by_number R.WrongAnswer = refl
+by_number R.NotOpen = refl
+by_number R.WrongLength = refl
+by_number R.WrongCheck = refl
+by_number R.WrongOrder = refl
+by_number R.WrongCount = refl
+by_number R.NotValid = refl
+by_number R.WrongLabel = refl
+by_number R.TooDeep = refl
+by_number R.ToItself = refl
+
+not_both : {A : Type 0} (k : Refusal) → number_of k ≡ N.accepted → A
+not_both k e = clash _ (eq-eqb _ _ e) (refuses_it k)
 
 module _ (s : State) (q : Question) where
   -- the search for routes of just k records
@@ -68,14 +99,14 @@ module _ (s : State) (q : Question) where
       same : {x y : Answer} → HoldsFirst s q d x → HoldsFirst s q d y → x ≡ y
       same u v = u.holds ∙ ap route (one_first d u.list v.list u.first v.first) ∙ sym v.holds
 
-      go : {x y : Answer} → Answers s q d x → Answers s q d y → (x.found ≡ true → HoldsFirst s q d x) → (y.found ≡ true → HoldsFirst s q d y) → x ≡ y
-      go (refused a) (refused b) u v = refl
-      go (refused a) (none b f) u v = absurd (a b)
-      go (refused a) (found b f) u v = absurd (a b)
-      go (none a f) (refused b) u v = absurd (b a)
+      go : {x y : Answer} → Answers s q d x → Answers s q d y → (has_route x ≡ true → HoldsFirst s q d x) → (has_route y ≡ true → HoldsFirst s q d y) → x ≡ y
+      go (refused k a) (refused j b) u v = ap Err (sym (by_number k) ∙ ap with_number (sym a ∙ b) ∙ by_number j)
+      go (refused k a) (none b f) u v = not_both k (sym a ∙ b)
+      go (refused k a) (found b f) u v = not_both k (sym a ∙ b)
+      go (none a f) (refused k b) u v = not_both k (sym b ∙ a)
       go (none a f) (none b g) u v = refl
       go (none a f) (found b {l} g) u v = absurd (f l g)
-      go (found a f) (refused b) u v = absurd (b a)
+      go (found a f) (refused k b) u v = not_both k (sym b ∙ a)
       go (found a {l} f) (none b g) u v = absurd (g l f)
       go (found a f) (found b g) u v = same (u refl) (v refl)
 
@@ -91,9 +122,9 @@ module _ (s : State) (q : Question) where
   }
 
   -- the same question has the same route at every depth that is taken and deep enough
-  pub same_at_any_depth : (d e : ℕ) {x y : Answer} → FirstAnswers s q d x → x.found ≡ true → x.count ≤ e → route_number s q e ≡ N.accepted → FirstAnswers s q e y → y ≡ x
+  pub same_at_any_depth : (d e : ℕ) {x y : Answer} → FirstAnswers s q d x → has_route x ≡ true → count_of x ≤ e → route_number s q e ≡ N.accepted → FirstAnswers s q e y → y ≡ x
   same_at_any_depth d e {x} f o h t y =
       let u = f.first o in
-      let k : length u.list ≤ e = subst (λ x. x.count ≤ e) u.holds h in
+      let k : length u.list ≤ e = subst (λ x. count_of x ≤ e) u.holds h in
       let r = first_at_any_depth d e u.list u.first k in
       one_answer e y (record { answers = subst (Answers s q e) (sym u.holds) (found t r.is_route); first = λ o. record { list = u.list; first = r; holds = u.holds } })

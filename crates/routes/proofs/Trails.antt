@@ -1,21 +1,11 @@
 -- Routes in the places of an answer. Assumes nothing.
 use mathlib.Core.Path.{◌≡◌, refl, ap}
 use mathlib.Core.List.{List, [], ◌∷◌, ◌++◌}
-use Prim.Native.Nat.{ℕ, zero, suc, ◌≤◌}
-use native.Mathlib.Omega.{arith}
-use lib.ListN.{length, take, get_or, replicate}
+use Prim.Native.Nat.{ℕ, zero, suc}
+use lib.ListN.{take, replicate}
 use Rattle.charts.specs.declared.Action.{Action}
 use Rattle.charts.specs.Records.{blank}
 use Rattle.charts.specs.Routes.{in_places}
-
--- the first five of a list, one by one
-pub first_five : (l : List Action) → 5 ≤ length l → get_or l 0 blank ∷ get_or l 1 blank ∷ get_or l 2 blank ∷ get_or l 3 blank ∷ get_or l 4 blank ∷ [] ≡ take 5 l
-first_five [] h = absurd (omega (arith, h))
-first_five (a ∷ []) h = absurd (omega (arith, h))
-first_five (a ∷ b ∷ []) h = absurd (omega (arith, h))
-first_five (a ∷ b ∷ c ∷ []) h = absurd (omega (arith, h))
-first_five (a ∷ b ∷ c ∷ d ∷ []) h = absurd (omega (arith, h))
-first_five (a ∷ b ∷ c ∷ d ∷ e ∷ l) h = refl
 
 take_first : {A : Type 0} (n : ℕ) (l : List A) → take n (take (suc n) l) ≡ take n l
 take_first zero l = refl

@@ -1,12 +1,11 @@
 -- The search: "going deeper by one action with one less left".
-use Rattle.std.specs.Prelude.{Bool, false, cond, List, [], ◌∷◌, ℕ, zero, suc, take}
+use Rattle.std.specs.Prelude.{Bool, false, cond, List, [], ◌∷◌, ℕ, zero, suc, take, Option, Some, None}
 use Rattle.charts.specs.declared.Report.{Report}
 use Rattle.charts.specs.declared.Action.{Action}
 use Rattle.charts.specs.declared.Question.{Question}
 use Rattle.charts.specs.Routes.{gives, in_places}
 use Rattle.charts.specs.State.{State}
 use Rattle.charts.specs.Step.{Result, step, is_accepted}
-use Rattle.routes.specs.declared.search.Trail.{Trail}
 use Rattle.routes.specs.Choices.{choices, choice}
 
 -- whether a route was found, and its records
@@ -43,12 +42,9 @@ searched (suc d) s r q =
 abbrev pub following : ℕ → State → Question → ℕ → Found
 following d s q k = tried (λ x. searched d x.state x.report q) (choice s.n s.phase k) (step s (choice s.n s.phase k))
 
--- the code's trails
-abbrev pub bare_trail : Bool → Trail
-bare_trail b = record { found = b; actions = in_places [] }
+-- the code's trails: the records of a route in their places
+abbrev pub prepended : Action → List Action → List Action
+prepended a l = a ∷ take 5 l
 
-abbrev pub prepended : Action → Trail → Trail
-prepended a t = record { found = t.found; actions = a ∷ take 5 t.actions }
-
-abbrev pub trail_of : Found → Trail
-trail_of x = record { found = x.found; actions = in_places x.records }
+abbrev pub trail_of : Found → Option (List Action)
+trail_of x = cond x.found (Some (in_places x.records)) None

@@ -2,20 +2,8 @@
 ghost use Rattle.std.specs.Prelude.{◌≡◌, ◌≤◌};
 ghost use Rattle.routes.specs.Choices.{ways, choices, change_of, way_of, choice};
 
-use charts::{Action, Phase, Signal};
+use charts::{Action, Kind, Phase, Signal};
 use record::named;
-
-const CLOCK: u8 = 4;
-
-const PASS: u8 = 5;
-
-const LOSE: u8 = 6;
-
-const CHANGE: u8 = 7;
-
-const GRANT: u8 = 8;
-
-const GAP: u8 = 9;
 
 const EVERYBODY: u8 = 63;
 
@@ -25,15 +13,9 @@ fn ways(n: u8, s: Signal) -> u8
     ensures { result ≡ ways n s }
 {
     match s {
-        Signal::Start => 1,
-        Signal::End => 1,
-        Signal::Prefix => 1,
-        Signal::Gap => 1,
-        Signal::Dhead => 1,
         Signal::Dest(_) => n + 2,
-        Signal::Header(_, _) => 3,
-        Signal::Data(_, _) => 3,
-        Signal::Ack(_, _) => 3,
+        Signal::Header(..) | Signal::Data(..) | Signal::Ack(..) => 3,
+        _ => 1,
     }
 }
 
@@ -45,11 +27,7 @@ pub(crate) fn choices(n: u8, phase: Phase) -> u8
     match phase {
         Phase::Idle => 0,
         Phase::Busy => n,
-        Phase::Delivering {
-            sender: _,
-            signal,
-            next: _,
-        } => ways(n, signal),
+        Phase::Delivering { signal, .. } => ways(n, signal),
         Phase::Granting => 1,
         Phase::Gapping(_) => 1,
     }
@@ -59,41 +37,36 @@ pub(crate) fn choices(n: u8, phase: Phase) -> u8
 fn change_of(n: u8, k: u8) -> Action
     ensures { result ≡ change_of n k }
 {
-    if k < n {
-        return named(CHANGE, 0, k);
-    }
-    named(CHANGE, 0, EVERYBODY)
+    named(Kind::Change.number(), 0, if k < n { k } else { EVERYBODY })
 }
 
 // The k-th way of a signal to its next receiver.
+#[tactic(auto, unfolding(crate::specs::Choices::way_of))]
 fn way_of(n: u8, s: Signal, k: u8) -> Action
     ensures { result ≡ way_of n s k }
 {
     if k == 0 {
-        return named(PASS, 0, 0);
+        return named(Kind::Pass.number(), 0, 0);
     }
     if !link::signals::is_checked(s) {
         return change_of(n, k - 1);
     }
     if k == 1 {
-        return named(LOSE, 0, 0);
+        return named(Kind::Lose.number(), 0, 0);
     }
-    named(CHANGE, 0, 0)
+    named(Kind::Change.number(), 0, 0)
 }
 
 // The k-th choice.
+#[tactic(auto, unfolding(crate::specs::Choices::choice))]
 pub(crate) fn choice(n: u8, phase: Phase, k: u8) -> Action
     ensures { result ≡ choice n phase k }
 {
     match phase {
-        Phase::Idle => named(GAP, 0, 0),
-        Phase::Busy => named(CLOCK, k, 0),
-        Phase::Delivering {
-            sender: _,
-            signal,
-            next: _,
-        } => way_of(n, signal, k),
-        Phase::Granting => named(GRANT, 0, 0),
-        Phase::Gapping(_) => named(GAP, 0, 0),
+        Phase::Idle => named(Kind::Gap.number(), 0, 0),
+        Phase::Busy => named(Kind::Clock.number(), k, 0),
+        Phase::Delivering { signal, .. } => way_of(n, signal, k),
+        Phase::Granting => named(Kind::Grant.number(), 0, 0),
+        Phase::Gapping(_) => named(Kind::Gap.number(), 0, 0),
     }
 }

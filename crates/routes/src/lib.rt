@@ -5,78 +5,48 @@ mod choices;
 mod search;
 
 ghost use Rattle.std.specs.Prelude.{◌≡◌, true};
-ghost use Rattle.charts.specs.Routes.{too_deep, route_number, refused_by, Answers, HoldsFirst};
+ghost use Rattle.charts.specs.Numbers.{refusal_number};
+ghost use Rattle.charts.specs.Routes.{too_deep, route_number, has_route, Answers, HoldsFirst};
 ghost use Rattle.charts.specs.View.{view};
 
-use charts::{Answer, Bus, Question, Report};
-use deciding::bools::either;
-
-const WRONG_NODE: u8 = 4;
-
-const NOT_VALID: u8 = 12;
-
-const TOO_DEEP: u8 = 14;
+use charts::{Answer, Bus, Question, Refusal, Report, Route};
 
 // "depth over 6 or n over 8"
 fn is_too_deep(n: u8, depth: u8) -> bool
     ensures { result ≡ too_deep n depth }
 {
-    either(6 < depth, 8 < n)
+    6 < depth || 8 < n
 }
 
-// The number by which a question is refused, or 0: 12, then 14, then 4.
-pub fn number(b: Bus, q: Question, depth: u8) -> u8
-    ensures { result ≡ route_number (view b) q depth }
+// What a question is refused by: 12, then 14, then 4.
+#[tactic(auto, unfolding(charts::specs::Routes::route_number, charts::specs::View::view))]
+pub fn number(b: Bus, q: Question, depth: u8) -> Option<Refusal>
+    ensures { refusal_number result ≡ route_number (view b) q depth }
 {
-    let is_valid = bus::validity::is_valid(b);
-    let deep = is_too_deep(b.n, depth);
-    let there = q.node < b.n;
-    if !is_valid {
-        return NOT_VALID;
+    if !bus::validity::is_valid(b) {
+        return Some(Refusal::NotValid);
     }
-    if deep {
-        return TOO_DEEP;
+    if is_too_deep(b.n, depth) {
+        return Some(Refusal::TooDeep);
     }
-    if !there {
-        return WRONG_NODE;
+    if b.n <= q.node {
+        return Some(Refusal::WrongNode);
     }
-    0
-}
-
-// An answer without a route: a refusal, or none for 0.
-fn without_route(number: u8) -> Answer
-    ensures { result ≡ refused_by number }
-{
-    Answer {
-        number: number,
-        found: false,
-        count: 0,
-        actions: [record::named(0, 0, 0); 6],
-    }
+    None
 }
 
 // The first route of at most `depth` bus events from a state to a report: the lengths from 1 on, and of each length the records in the order of their bytes.
 pub fn find(b: Bus, q: Question, depth: u8) -> Answer
     ensures answers { Answers (view b) q depth result }
-    ensures first { result.found ≡ true → HoldsFirst (view b) q depth result }
+    ensures first { has_route result ≡ true → HoldsFirst (view b) q depth result }
 {
-    let number = number(b, q, depth);
-    if number != 0 {
-        return without_route(number);
+    if let Some(refusal) = number(b, q, depth) {
+        return Err(refusal);
     }
-    let mut count: u8 = 0;
-    while count < depth {
-        count += 1;
-        let trail = search::search(b, Report::Silent, q, count);
-        if trail.found {
-            let actions = trail.actions;
-            return Answer {
-                number: 0,
-                found: true,
-                count: count,
-                actions: actions,
-            };
+    for count in 1..=depth {
+        if let Some(actions) = search::search(b, Report::Silent, q, count) {
+            return Ok(Some(Route { count, actions }));
         }
     }
-    without_route(0)
+    Ok(None)
 }

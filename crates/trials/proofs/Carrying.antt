@@ -1,28 +1,28 @@
 -- A trial carried through block by block: the blocks that are written are the file of the actions that were made. Assumes nothing.
-use mathlib.Core.Path.{◌≡◌, refl, sym, ap, subst, ◌∙◌}
-use mathlib.Core.Bool.{cond}
-use mathlib.Core.List.{List, [], ◌∷◌, ◌++◌, append-nil}
-use Prim.Native.Nat.{ℕ, suc, ◌+◌, ◌*◌, ◌-◌, ◌<◌, ◌≤◌}
+use mathlib.Core.Path.{◌≡◌, refl, sym, ap, ◌∙◌}
+use mathlib.Core.List.{List, [], ◌∷◌, ◌++◌, append-nil, append_assoc}
+use Prim.Native.Nat.{ℕ, suc, min, ◌+◌, ◌*◌, ◌-◌, ◌<◌, ◌≤◌}
 use native.Mathlib.Omega.{arith}
 use lib.Dec.{ltb}
-use lib.ListN.{length, set, take, length-append}
+use lib.ListN.{length, set, take, drop, length-append}
 use lib.Seq.{sets, take_all}
+use borrow.Rule.Slice.PartMut.{put_mid}
+use Rattle.std.proofs.lemmas.List.Edits.{sets-eq}
+use lib.Seq.{drop-drop}
 use borrow.Author.Tests.{eq-eqb, ltb-true, ltb-false}
 use Rattle.charts.specs.declared.User.{User}
 use Rattle.charts.specs.Trials.{begins, load_after, trial, no_tally, tally_of}
-use Rattle.charts.specs.View.{Sized}
 use Rattle.charts.specs.Layout.{records_of}
 use Rattle.charts.proofs.Settings.{is_trial}
-use Rattle.charts.proofs.Tools.{pick_by}
+use Rattle.charts.proofs.Tools.{by_test}
 use Rattle.files.specs.File.{blocks_for, file_from, file_of}
 use Rattle.runfile.specs.Write.{write_number, block_with, block_of, written}
 use Rattle.files.proofs.Accepted.{shown}
 use Rattle.files.proofs.Files.{block_accepted, block_taken}
 use Rattle.files.proofs.Splits.{file_split}
-use Rattle.turns.specs.Turns.{Allowed, load_in}
-use Rattle.trials.specs.declared.Tried.{Tried}
+use Rattle.turns.specs.Turns.{Allowed, load_in, tally_after}
 use Rattle.trials.specs.declared.block.Trial.{Trial}
-use Rattle.trials.specs.Trying.{StandsAt, part, tried}
+use Rattle.trials.specs.Trying.{StandsAt, part}
 use Rattle.trials.proofs.Parts.{part_length}
 use Rattle.trials.proofs.Allowing.{allowed_size}
 use Rattle.trials.proofs.Taking.{trial_on, part_fits, part_taken}
@@ -45,17 +45,20 @@ pub record Counts (left count : ℕ) : Type 0 where
   pub within : count ≤ left
   pub full : count < left → count ≡ 31
 
-pub counts : (left count : ℕ) → 1 ≤ left → count ≡ cond (ltb left 31) left 31 → Counts left count
-counts left count some e = subst (Counts left) (sym e) (pick_by (Counts left) (ltb left 31) left 31
-    (λ h. let l : left < 31 = ltb-true left 31 h in record { some_left = some; few = omega arith; within = omega arith; full = λ z. absurd (omega arith) })
-    (λ h. let l : 31 ≤ left = ltb-false left 31 h in record { some_left = omega arith; few = omega arith; within = l; full = λ z. refl }))
+pub counts : (left count : ℕ) → 1 ≤ left → count ≡ min left 31 → Counts left count
+counts left count some e = record { some_left = omega arith; few = omega arith; within = omega arith; full = λ h. omega arith }
+
+-- bytes written to a part of an array that they fill
+pub stored : (l : List ℕ) (i k : ℕ) (u : List ℕ) → length u ≡ k → i + k ≤ length l → put_mid i k l u ≡ sets l i u
+stored l i k u e h = rw drop-drop (rw (← e) (sym (append_assoc (take i l) u (drop (i + length u) l)) ∙ sym (sets-eq u l i (omega arith))))
 
 -- what a write that is not refused leaves
 pub written_is : (r : ℕ) (old new : List ℕ) → r ≡ 0 → written r old new ≡ new
 written_is r old new e = rw (eq-eqb r 0 e)
 
 -- after some blocks, all of them full while actions are left: the trial stands after their actions, and the lent bytes begin with their file
-pub record Carried (us : ℕ → User) (n actions : ℕ) (entry file : List ℕ) (t : Trial) (number done : ℕ) : Type 0 where
+pub record Carried (us : ℕ → User) (n actions : ℕ) (entry file : List ℕ) (t : Trial) (number : ℕ) : Type 0 where
+  pub done : ℕ
   pub under : done ≤ actions
   pub blocks : number ≡ blocks_for done
   pub all_full : done < actions → done ≡ 31 * number
@@ -66,31 +69,42 @@ pub record Carried (us : ℕ → User) (n actions : ℕ) (entry file : List ℕ)
 
 module _ (us : ℕ → User) (n actions : ℕ) where
   -- before the first block
-  pub carried_none : (entry : List ℕ) (t : Trial) → t.bus.n ≡ n → load_in t.bus t.left t.heard t.filled t.made ≡ begins n → t.tally ≡ no_tally → Sized t.bus
-      → length t.left ≡ 63 → length t.heard ≡ 63 → length t.filled ≡ 63 → length t.made ≡ 63 → Carried us n actions entry entry t 0 0
+  pub carried_none : (entry : List ℕ) (t : Trial) → t.bus.n ≡ n → load_in t.bus t.kept ≡ begins n → t.tally ≡ no_tally → Carried us n actions entry entry t 0
   unfolding load_after trial tally_of
-  carried_none entry t e load tally sized left heard filled made = record {
+  carried_none entry t e load tally = record {
+    done = 0;
     under = omega arith;
     blocks = omega arith;
     all_full = λ h. omega arith;
     nodes = e;
-    stands = record { load = load ∙ ap begins (sym e); tally = tally; sized = sized; left_size = left; heard_size = heard; filled_size = filled; made_size = made };
+    stands = record { load = load ∙ ap begins (sym e); tally = tally };
     size = omega arith;
     wrote = refl;
   }
 
-  -- after the last one
-  pub carried_all : (entry file : List ℕ) (t : Trial) (number done : ℕ) → Carried us n actions entry file t number done → actions ≤ done
-      → (◌≡◌ {A = Tried} (record { number = 0; size = 512 * number; tally = t.tally }) (tried us n actions)) × (file ≡ sets entry 0 (file_of n (trial us n actions)))
-  unfolding file_of
-  carried_all entry file t number done c over =
-      let under = c.under in
-      let all : done ≡ actions = omega arith in
-      let count : length (trial us n actions) ≡ actions = (is_trial us n actions).count in
-      (rw (c.blocks, c.stands.tally, c.nodes, all), rw (count) (rw (c.blocks, all) at c.wrote))
+  module _ (entry file : List ℕ) (t : Trial) (number : ℕ) (c : Carried us n actions entry file t number) where
+    -- a block that is not the last is full
+    pub done_full : number < blocks_for actions → (c.done < actions) × (c.done ≡ 31 * number)
+    done_full h = let u = c.under in let b = c.blocks in let more : c.done < actions = omega arith in (more, c.all_full more)
 
-  module _ (a : Allowed us n) (short : actions ≤ 65535) (entry file : List ℕ) (t : Trial) (number done count : ℕ) (c : Carried us n actions entry file t number done) (more : done < actions) (counted : Counts (actions - done) count)
-      (bytes : List ℕ) (made : bytes ≡ records_of (part us t.bus.n done count)) where
+    pub done_all : blocks_for actions ≤ number → c.done ≡ actions
+    done_all h = let u = c.under in let b = c.blocks in by_test (ltb c.done actions)
+        (λ t. let l : c.done < actions = ltb-true c.done actions t in let f = c.all_full l in absurd (omega arith))
+        (λ t. let l : actions ≤ c.done = ltb-false c.done actions t in omega arith)
+
+    -- after the last one
+    pub carried_all : blocks_for actions ≤ number → (number ≡ blocks_for actions) × (t.tally ≡ tally_after us n actions) × (file ≡ sets entry 0 (file_of n (trial us n actions)))
+    unfolding file_of
+    carried_all over =
+        let all = done_all over in
+        let count : length (trial us n actions) ≡ actions = (is_trial us n actions).count in
+        (rw (c.blocks, all), rw (c.stands.tally, c.nodes, all), rw (count) (rw (c.blocks, all) at c.wrote))
+
+  module _ (a : Allowed us n) (short : actions ≤ 65535) (entry file : List ℕ) (t : Trial) (number count : ℕ) (c : Carried us n actions entry file t number) (more : c.done < actions) (counted : Counts (actions - c.done) count)
+      (bytes : List ℕ) (made : bytes ≡ records_of (part us t.bus.n c.done count)) where
+    abbrev done : ℕ
+    done = c.done
+
     -- the next block's bytes, at its number
     records_are : bytes ≡ records_of (part us n done count)
     records_are = made ∙ ap (λ m. records_of (part us m done count)) c.nodes
@@ -125,7 +139,7 @@ module _ (us : ℕ → User) (n actions : ℕ) where
         ap (λ x. length (block_with number n x)) records_are ∙ (shown (block_of number n (part us n done count)) number (length (part us n done count)) n read.accepted).size
 
     pub carried_on : (u : Trial) (block after : List ℕ) → u.bus.n ≡ t.bus.n → StandsAt us (done + count) u → block ≡ block_with number n bytes → after ≡ sets file (512 * number) block
-        → Carried us n actions entry after u (number + 1) (done + count)
+        → Carried us n actions entry after u (number + 1)
     carried_on u block after same stands is stored =
         let some = counted.some_left in
         let few = counted.few in
@@ -137,6 +151,7 @@ module _ (us : ℕ → User) (n actions : ℕ) where
         let whole = one_more ∙ ap (λ x. file_from number 0 n (trial us n done) ++ x) (sym is) in
         let place : 512 * number ≡ 0 + length (file_from number 0 n (trial us n done)) = omega arith in
         record {
+          done = done + count;
           under = omega arith;
           blocks = omega arith;
           all_full = λ h. let z : count ≡ 31 = counted.full (omega arith) in omega arith;

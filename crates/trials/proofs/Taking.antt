@@ -8,12 +8,11 @@ use lib.Dec.{eqb, ltb}
 use lib.ListN.{length}
 use borrow.Author.Tests.{eqb-true, ltb-true}
 use Rattle.charts.specs.declared.Action.{Action}
-use Rattle.charts.specs.declared.Decoded.{Decoded}
-use Rattle.charts.specs.declared.Decoded.TheVariants.{Refused, Accepted}
+use Rattle.std.specs.Prelude.{Ok, Err}
 use Rattle.charts.specs.declared.Kept.{Kept}
 use Rattle.charts.specs.declared.User.{User}
 use Rattle.charts.specs.Asking.{of_node}
-use Rattle.charts.specs.Records.{is_address, move_of, read}
+use Rattle.charts.specs.Records.{Decoded, is_address, move_of, read}
 use Rattle.charts.specs.Signals.{is_checked}
 use Rattle.charts.specs.State.{fresh}
 use Rattle.charts.specs.Trials.{Load, request_by, respond_by, is_due, holder_of, holds_now, asking, bidding, asker, waited, load_after, chosen, trial}
@@ -93,8 +92,8 @@ taken_more n [] x e g = g
 taken_more n (b ∷ l) x e g = go (read n b) e (λ f. taken_more n l x f g)
   where
     go : (d : Decoded) → refused_or d (first_refusal n l) ≡ 0 → (first_refusal n l ≡ 0 → first_refusal n (l ++ (x ∷ [])) ≡ 0) → refused_or d (first_refusal n (l ++ (x ∷ []))) ≡ 0
-    go (Refused k) e f = e
-    go (Accepted m) e f = f e
+    go (Err k) e f = e
+    go (Ok m) e f = f e
 
 -- 3. a longer trial is the shorter one and the part after it
 pub trial_on : (us : ℕ → User) (n from k : ℕ) → trial us n (from + k) ≡ trial us n from ++ part us n from k
@@ -128,8 +127,8 @@ module _ (us : ℕ → User) (n : ℕ) (a : Allowed us n) where
     n_is : l.state.n ≡ n
     n_is = ap (λ s. s.n) (is_trial us n k).bus ∙ run_n (fresh n) (trial us n k)
 
-    reads : read n (chosen us n k) ≡ Accepted (move_of (chosen us n k))
-    reads = subst (λ m. read m (chosen us n k) ≡ Accepted (move_of (chosen us n k))) n_is (open_reads l.state (chosen us n k) (keeps_settings us n a.two a.small a.fine k).opens)
+    reads : read n (chosen us n k) ≡ Ok (move_of (chosen us n k))
+    reads = subst (λ m. read m (chosen us n k) ≡ Ok (move_of (chosen us n k))) n_is (open_reads l.state (chosen us n k) (keeps_settings us n a.two a.small a.fine k).opens)
 
     node_small : (i : ℕ) → i < l.state.n → i < 256
     node_small i h = let e = n_is in let small = a.small in omega arith

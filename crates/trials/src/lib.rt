@@ -3,216 +3,69 @@
 
 mod block;
 
-ghost use Rattle.std.specs.Prelude.{◌≡◌, true, cond, ◌+◌, ◌≤◌, ltb, length};
+ghost use Rattle.std.specs.Prelude.{◌≡◌, true, ◌*◌, ◌≤◌};
 ghost use Rattle.std.proofs.lemmas.List.Edits.{sets};
+ghost use Rattle.charts.specs.Numbers.{err_number};
 ghost use Rattle.charts.specs.State.{some};
 ghost use Rattle.charts.specs.Valid.{is_size};
 ghost use Rattle.charts.specs.Trials.{begins, trial, stray_address, own_address, trial_number, no_tally};
-ghost use Rattle.files.specs.File.{file_of};
+ghost use Rattle.files.specs.File.{blocks_for, file_of};
 ghost use Rattle.charts.specs.View.{users_of};
-ghost use Rattle.turns.specs.Turns.{load_in, Allowed};
-ghost use Rattle.trials.specs.Trying.{tried, tried_of, answered, file_after};
+ghost use Rattle.turns.specs.Turns.{load_in, tally_after, Allowed};
+ghost use Rattle.trials.specs.Trying.{tried_of, kept_with, given, file_after};
 
 use block::Trial;
-use charts::{Tally, Users};
-use deciding::bools;
-
-const WRONG_SIZE: u8 = 1;
-
-const WRONG_ADDRESS: u8 = 5;
-
-const WRONG_COUNT: u8 = 11;
-
-const TO_ITSELF: u8 = 15;
-
-// What a trial gives beside its run file and the lent tally: 0 or the number of its refusal, and how many bytes the run file has.
-#[derive(Clone, Copy)]
-pub struct Answer {
-    pub number: u8,
-    pub size: usize,
-}
-
-// The same with the tally.
-#[derive(Clone, Copy)]
-pub struct Tried {
-    pub number: u8,
-    pub size: usize,
-    pub tally: Tally,
-}
+use charts::{Kept, Refusal, Tally, Users};
 
 // Whether the address of some node is neither below n nor 63, and whether that of some node is its own number.
-#[derive(Clone, Copy)]
-struct Addresses {
-    stray: bool,
-    own: bool,
+fn has_stray(users: &Users, n: u8) -> bool
+    requires { n ≤ 63 }
+    ensures { result ≡ some (stray_address (users_of users.now) n) n }
+{
+    (0..n).any(|k| !record::is_address(n, users[usize::from(k)].address))
 }
 
-// Looks at the addresses of the nodes below n.
-fn look_at(users: Users, n: u8) -> Addresses
+fn has_own(users: &Users, n: u8) -> bool
     requires { n ≤ 63 }
-    ensures stray_value { result.stray ≡ some (stray_address (users_of users) n) n }
-    ensures own_value { result.own ≡ some (own_address (users_of users)) n }
+    ensures { result ≡ some (own_address (users_of users.now)) n }
 {
-    let address = users.address;
-    let mut stray = false;
-    let mut own = false;
-    let mut k: u8 = 0;
-    while k < n {
-        let to = address[k as usize];
-        stray = bools::either(!record::is_address(n, to), stray);
-        own = bools::either(record::is_own(k, to), own);
-        k += 1;
-    }
-    Addresses {
-        stray: stray,
-        own: own,
-    }
+    (0..n).any(|k| record::is_own(k, users[usize::from(k)].address))
 }
 
 // What a trial is refused by: 1, then 5 for all nodes, then 15 for all nodes, then 11.
-fn number_of(users: Users, n: u8, actions: u16) -> u8
-    ensures { result ≡ trial_number (users_of users) n actions }
+#[tactic(auto, unfolding(charts::specs::Trials::trial_number))]
+fn check(users: &Users, n: u8, actions: u16) -> Result<(), Refusal>
+    ensures { err_number result ≡ trial_number (users_of users.now) n actions }
 {
-    if !runfile::is_size(n) {
-        return WRONG_SIZE;
+    if !record::is_size(n) {
+        return Err(Refusal::WrongSize);
     }
-    let found = look_at(users, n);
-    if found.stray {
-        return WRONG_ADDRESS;
+    if has_stray(users, n) {
+        return Err(Refusal::WrongAddress);
     }
-    if found.own {
-        return TO_ITSELF;
+    if has_own(users, n) {
+        return Err(Refusal::ToItself);
     }
     if actions == 0 {
-        return WRONG_COUNT;
+        return Err(Refusal::WrongCount);
     }
-    0
-}
-
-fn nothing() -> Tally
-    ensures { result ≡ no_tally }
-{
-    Tally {
-        requests: 0,
-        wins: 0,
-        sent: 0,
-        acks: 0,
-        misses: 0,
-        drops: 0,
-    }
+    Ok(())
 }
 
 // A trial before its first action.
 fn begin(n: u8) -> Trial
     requires { is_size n ≡ true }
     ensures n_value { result.bus.n ≡ n }
-    ensures made_value { load_in result.bus result.left result.heard result.filled result.made ≡ begins n }
+    ensures made_value { load_in result.bus result.kept ≡ begins n }
     ensures tally_value { result.tally ≡ no_tally }
 {
-    let begun = bus::fresh(n);
-    let bus = begun.bus;
-    Trial {
-        bus: bus,
-        left: [0u8; 63],
-        heard: [0u8; 63],
-        filled: [0u8; 63],
-        made: [0u16; 63],
-        tally: nothing(),
-    }
-}
-
-// How many of the actions that are left go into a block: at most 31.
-fn count_of(left: u32) -> u32
-    ensures { result ≡ cond (ltb left 31) left 31 }
-{
-    if left < 31 { left } else { 31 }
-}
-
-// Stores a block at its place in the file.
-fn store(file: &mut [u8; 1082880], at: usize, block: &[u8])
-    requires { at + length block.now ≤ 1082880 }
-    ensures { file.new ≡ sets file.old at block.now }
-{
-    let mut i: usize = 0;
-    while i < block.len() {
-        file[at + i] = block[i];
-        i += 1;
-    }
-}
-
-// Makes the actions of a trial that is not refused, block by block, and writes their run file.
-fn carry_through(n: u8, users: Users, actions: u32, file: &mut [u8; 1082880]) -> Tried
-    requires allowed { Allowed (users_of users) n }
-    requires le_actions { (1 ≤ actions) × (actions ≤ 65535) }
-    ensures value { result ≡ tried (users_of users) n actions }
-    ensures file_after { file.new ≡ sets file.old 0 (file_of n (trial (users_of users) n actions)) }
-{
-    let mut t = begin(n);
-    let mut number: u32 = 0;
-    let mut done: u32 = 0;
-    while done < actions {
-        let count = count_of(actions - done);
-        let made = block::make_actions(t, users, done, count as usize);
-        t = made.trial;
-        let records = made.records;
-        let size = 16 * (count as usize);
-        let mut block = [0u8; 512];
-        runfile::write_block(&mut block, number, n, &records[..size]);
-        store(file, 512 * (number as usize), &block);
-        number += 1;
-        done += count;
-    }
-    let tally = t.tally;
-    Tried {
-        number: 0,
-        size: 512 * (number as usize),
-        tally: tally,
-    }
-}
-
-// A trial by value: its number, its run file in the lent bytes, and its tally. A refused one has the tally that was kept before it.
-fn conduct(old: Tally, n: u8, users: Users, actions: u16, file: &mut [u8; 1082880]) -> Tried
-    ensures value { result ≡ tried_of old (users_of users) n actions }
-    ensures file_after { file.new ≡ file_after (users_of users) n actions file.old }
-{
-    let number = number_of(users, n, actions);
-    if number != 0 {
-        return Tried {
-            number: number,
-            size: 0,
-            tally: old,
-        };
-    }
-    carry_through(n, users, actions as u32, file)
-}
-
-// A trial with the caller's own tally: a refusal leaves it as it was, else it is that of the trial.
-pub fn trial(
-    n: u8,
-    users: Users,
-    actions: u16,
-    file: &mut [u8; 1082880],
-    tally: &mut Tally,
-) -> Answer
-    ensures value { result ≡ answered (tried_of tally.old (users_of users) n actions) }
-    ensures file_after { file.new ≡ file_after (users_of users) n actions file.old }
-    ensures tally_after { tally.new ≡ (tried_of tally.old (users_of users) n actions).tally }
-{
-    let old = *tally;
-    let t = conduct(old, n, users, actions, file);
-    *tally = t.tally;
-    Answer {
-        number: t.number,
-        size: t.size,
-    }
-}
-
-// For a caller that keeps no tally: the trial's own, by value; all 0 where it is refused.
-pub fn attempt(n: u8, users: Users, actions: u16, file: &mut [u8; 1082880]) -> Tried
-    ensures value { result ≡ tried_of no_tally (users_of users) n actions }
-    ensures file_after { file.new ≡ file_after (users_of users) n actions file.old }
-{
-    let mut tally = Tally {
+    let nothing_kept = Kept {
+        left: 0,
+        heard: 0,
+        filled: 0,
+        made: 0,
+    };
+    let tally = Tally {
         requests: 0,
         wins: 0,
         sent: 0,
@@ -220,10 +73,59 @@ pub fn attempt(n: u8, users: Users, actions: u16, file: &mut [u8; 1082880]) -> T
         misses: 0,
         drops: 0,
     };
-    let a = trial(n, users, actions, file, &mut tally);
-    Tried {
-        number: a.number,
-        size: a.size,
-        tally: tally,
+    Trial {
+        bus: bus::fresh(n).bus,
+        kept: [nothing_kept; 63],
+        tally,
     }
+}
+
+// Makes the actions of a trial that is not refused, block by block, and writes their run file: its size, and the tally.
+fn carry_through(n: u8, users: &Users, actions: u32, file: &mut [u8; 1082880]) -> (usize, Tally)
+    requires allowed { Allowed (users_of users.now) n }
+    requires le_actions { (1 ≤ actions) × (actions ≤ 65535) }
+    ensures size { result.0 ≡ 512 * blocks_for actions }
+    ensures tally { result.1 ≡ tally_after (users_of users.now) n actions }
+    ensures file_after { file.new ≡ sets file.old 0 (file_of n (trial (users_of users.now) n actions)) }
+{
+    let mut t = begin(n);
+    let blocks = actions.div_ceil(31);
+    for number in 0..blocks {
+        let done = 31 * number;
+        let count = (actions - done).min(31) as usize;
+        let records = block::make_actions(&mut t, users, done, count);
+        let at = 512 * (number as usize);
+        let _ = runfile::write_block(&mut file[at..at + 512], number, n, &records[..16 * count]);
+    }
+    (512 * (blocks as usize), t.tally)
+}
+
+// A trial: its run file in the lent bytes, and that file's size and the tally by value.
+pub fn attempt(
+    n: u8,
+    users: Users,
+    actions: u16,
+    file: &mut [u8; 1082880],
+) -> Result<(usize, Tally), Refusal>
+    ensures value { given result ≡ tried_of no_tally (users_of users) n actions }
+    ensures file_after { file.new ≡ file_after (users_of users) n actions file.old }
+{
+    check(&users, n, actions)?;
+    Ok(carry_through(n, &users, u32::from(actions), file))
+}
+
+// The same with the caller's own tally: a refusal leaves it as it was, else it is that of the trial.
+pub fn trial(
+    n: u8,
+    users: Users,
+    actions: u16,
+    file: &mut [u8; 1082880],
+    tally: &mut Tally,
+) -> Result<usize, Refusal>
+    ensures value { kept_with result tally.new ≡ tried_of tally.old (users_of users) n actions }
+    ensures file_after { file.new ≡ file_after (users_of users) n actions file.old }
+{
+    let (size, counted) = attempt(n, users, actions, file)?;
+    *tally = counted;
+    Ok(size)
 }

@@ -27,7 +27,7 @@ use Rattle.charts.specs.Valid.{valid}
 use Rattle.charts.specs.Step.{Event, refusal, accepted, is_accepted, some_asked, event_of, events, step}
 use Rattle.charts.specs.Demand.{is_open, one, final, history}
 use Rattle.charts.specs.Trials.{Load, nothing_kept, lowered, reported, choice, waits, waited, is_carried, heard_after, won_by, keeps, follows, turned, acted, load_after, chosen, trial, counted, no_tally, tally_on, tally_of, is_request}
-use Rattle.charts.specs.View.{view, cell_of, mark, fresh_node, seen, told, Sized}
+use Rattle.charts.specs.View.{view, cell_of, mark, fresh_node, seen, told}
 use Rattle.charts.specs.Numbers.{err_number}
 use Rattle.charts.proofs.Steps.{is_valid, next_lt, step_n, refuses_it}
 use Rattle.charts.proofs.Tools.{and-true, both, pick, clash, upd_map}
@@ -93,6 +93,10 @@ few_counted us n k h =
     let f = few_on 0 no_tally (history n (trial us n k)) (record { requests_le = omega arith; wins_le = omega arith; sent_le = omega arith; acks_le = omega arith; misses_le = omega arith; drops_le = omega arith }) in
     let e : length (history n (trial us n k)) ≡ k = events_length (fresh n) (trial us n k) ∙ (is_trial us n k).count in
     record { requests_lt = let z = f.requests_le in omega arith; wins_lt = let z = f.wins_le in omega arith; sent_lt = let z = f.sent_le in omega arith; acks_lt = let z = f.acks_le in omega arith; misses_lt = let z = f.misses_le in omega arith; drops_lt = let z = f.drops_le in omega arith }
+
+-- a step keeps the number of nodes
+pub keeps_n : (b : Bus) (p : Played) (a : Action) → valid (view b) ≡ true → seen p ≡ advance_of (view b) a → p.bus.n ≡ b.n
+keeps_n b p a v e = sym (view_n p.bus) ∙ ap (λ q. q.state.n) (e ∙ advance_is_step (view b) a v) ∙ step_n (view b) a ∙ view_n b
 
 module _ (us : ℕ → User) (k : ℕ) (b : Bus) (kept : List Kept) (t : Tally) (ok : Allowed us b.n) (stands : Stands us k b kept t) where
   pub valid_now : valid (view b) ≡ true
@@ -182,8 +186,8 @@ module _ (us : ℕ → User) (k : ℕ) (b : Bus) (kept : List Kept) (t : Tally) 
           reports : report ≡ (step (view b) a).report
           reports = ap told (sym said) ∙ ap (λ q. q.report) stepped
 
-          pub same_n : bus.n ≡ b.n
-          same_n = sym (view_n bus) ∙ ap (λ q. q.state.n) stepped ∙ step_n (view b) a ∙ view_n b
+          same_n : bus.n ≡ b.n
+          same_n = keeps_n b p a valid_now p-is
 
           y_at : y ≡ kept_after b.phase ((view b).cell who) (us who) a (kept_in kept1 who)
           unfolding view
@@ -237,11 +241,9 @@ module _ (us : ℕ → User) (k : ℕ) (b : Bus) (kept : List Kept) (t : Tally) 
               short : Short t
               short = subst Short (sym stands.tally) (few_counted us b.n k few)
 
-          pub stands_on : who < length kept1 → Sized bus → length kept3 ≡ 63 → Stands us (suc k) bus kept3 t'
+          pub stands_on : who < length kept1 → Stands us (suc k) bus kept3 t'
           unfolding load_after turned
-          stands_on size sizes long = record {
+          stands_on size = record {
             load = load_now size ∙ ap (λ a. follows us now a (step (view b) a)) choice_now ∙ ap (acted us) now_is ∙ ap (λ n. load_after us n (suc k)) (sym same_n);
             tally = tally_now ∙ ap (λ n. tally_after us n (suc k)) (sym same_n);
-            sized = sizes;
-            kept_size = long;
           }

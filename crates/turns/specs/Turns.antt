@@ -15,7 +15,7 @@ use Rattle.charts.specs.declared.User.{User}
 use Rattle.charts.specs.Modes.{is_answering, is_spurious}
 use Rattle.charts.specs.Signals.{is_checked}
 use Rattle.charts.specs.State.{some, lowest, is_empty}
-use Rattle.charts.specs.View.{fresh_node, view, Sized}
+use Rattle.charts.specs.View.{fresh_node, view}
 use Rattle.charts.specs.Demand.{history}
 use Rattle.charts.specs.Asking.{of_node}
 use Rattle.charts.specs.Trials.{nothing_kept, request_by, delivers, acts, is_over, least, is_carried, heard_after, won_by, lowered, Load, load_after, trial, Sends, tally_of}
@@ -147,5 +147,3 @@ pub record Allowed (us : ℕ → User) (n : ℕ) : Type 0 where
 pub record Stands (us : ℕ → User) (k : ℕ) (b : Bus) (kept : List Kept) (t : Tally) : Type 0 where
   pub load : load_in b kept ≡ load_after us b.n k
   pub tally : t ≡ tally_after us b.n k
-  pub sized : Sized b
-  pub kept_size : length kept ≡ 63

@@ -1,87 +1,40 @@
-use mathlib.Core.Path.{◌≡◌, sym, ap, subst, ◌∙◌}
-use Prim.Native.Nat.{◌*◌, ◌-◌, ◌<◌, ◌≤◌}
+use Prim.Native.Nat.{◌+◌, ◌*◌, ◌-◌, ◌≤◌}
+use mathlib.Core.Path.{◌≡◌, sym, ap, ◌∙◌}
 use native.Mathlib.Omega.{arith}
 use lib.ListN.{length, take}
-use lib.Seq.{length-take-le}
 use borrow.Author.Rules.{rules}
-use Rattle.charts.specs.View.{Sized, users_of}
-use Rattle.bus.proofs.ViewLaws.{length_mapped}
-use Rattle.runfile.specs.Write.{block_with}
-use Rattle.turns.specs.Turns.{Allowed}
-use Rattle.trials.proofs.Allowing.{allowed_size}
-use Rattle.trials.proofs.Carrying.{counts, written_is, carried_none, carried_all, next_taken, next_size, carried_on}
+use Rattle.charts.specs.Numbers.{err_number}
+use Rattle.charts.specs.View.{users_of}
+use borrow.Rule.Slice.PartMut.{mid_len}
+use Rattle.charts.specs.Layout.{records_of}
+use Rattle.runfile.specs.Write.{block_with, write_number}
+use Rattle.trials.specs.Trying.{StandsAt, part}
+use Rattle.trials.proofs.Carrying.{Counts, counts, written_is, stored, carried_none, carried_all, done_full, next_taken, next_size, carried_on}
 use Rattle.trials.proofs.carry_through.Goals as goal
 
-pub begin-t-requires : goal.begin-t-requires
-begin-t-requires c = allowed_size _ _ c.requires.allowed
+pub loop-number-init : goal.loop-number-init
+loop-number-init c = carried_none (users_of c.args.users.now) c.args.n c.args.actions c.args.file.now c.begin-t.result c.begin-t.ensures.n_value c.begin-t.ensures.made_value c.begin-t.ensures.tally_value
 
-pub loop-done-init : goal.loop-done-init
-loop-done-init c = let sized : Sized c.begin-t.result.bus = record {
-  nodes_size = search (rules, length_mapped);
-  won_size = search rules;
-  pending_size = search rules;
-  holder_size = search (rules, c.begin-t.type_inv.1.1.0.1.1.1.1.1.1.1.0);
-  misled_size = search (rules, c.begin-t.type_inv.1.1.0.1.1.1.1.1.1.1.1.0);
-} in
-    carried_none (users_of c.args.users) c.args.n c.args.actions c.args.file.now c.begin-t.result c.begin-t.ensures.n_value c.begin-t.ensures.made_value c.begin-t.ensures.tally_value sized (search (rules, c.begin-t.type_inv)) (search (rules, c.begin-t.type_inv)) (search (rules, c.begin-t.type_inv)) (search (rules, c.begin-t.type_inv))
+pub loop-number-preserved : goal.loop-number-preserved
+loop-number-preserved c =
+    let us = users_of c.args.users.now in
+    let x = c.loop-number.invariant in
+    let count = c.min-count.result in
+    let full = done_full us c.args.n c.args.actions c.args.file.now c.loop-number.file c.loop-number.t c.loop-number.number x (omega arith) in
+    let place : 31 * c.loop-number.number ≡ x.done = sym full.1 in
+    let counted : Counts (c.args.actions - x.done) count = counts (c.args.actions - x.done) count (omega arith) (rw (← place) c.min-count.ensures) in
+    let bytes = take (16 * count) c.make_actions-records.result in
+    let made : bytes ≡ records_of (part us c.loop-number.t.bus.n x.done count) = rw (← place) c.make_actions-records.ensures.records_value in
+    let stands : StandsAt us (x.done + count) c.make_actions-records.new.t = rw (← place) c.make_actions-records.ensures.stands_at_2 in
+    let long : length c.loop-number.file ≡ 1082880 = search rules in
+    let k : 512 * c.loop-number.number + 512 - 512 * c.loop-number.number ≡ 512 = omega arith in
+    let room : 512 * c.loop-number.number + 512 ≤ 1082880 = omega arith in
+    let asked = mid_len (512 * c.loop-number.number) (512 * c.loop-number.number + 512) c.loop-number.file (omega arith) ∙ k in
+    let took : err_number c.write_block.result ≡ 0 = c.write_block.ensures.refusal_value ∙ (ap (λ s. write_number s c.args.n bytes) asked ∙ next_taken us c.args.n c.args.actions c.requires.allowed c.requires.le_actions.1 c.args.file.now c.loop-number.file c.loop-number.t c.loop-number.number count x full.0 counted bytes made) in
+    let is : c.write_block.new.out ≡ block_with c.loop-number.number c.args.n bytes = c.write_block.ensures.out_after ∙ written_is _ _ _ took in
+    let size : length c.write_block.new.out ≡ 512 = ap length is ∙ next_size us c.args.n c.args.actions c.requires.allowed c.requires.le_actions.1 c.args.file.now c.loop-number.file c.loop-number.t c.loop-number.number count x full.0 counted bytes made in
+    carried_on us c.args.n c.args.actions c.requires.allowed c.requires.le_actions.1 c.args.file.now c.loop-number.file c.loop-number.t c.loop-number.number count x full.0 counted bytes made
+    c.make_actions-records.new.t c.write_block.new.out _ c.make_actions-records.ensures.n_value stands is (rw k (stored c.loop-number.file (512 * c.loop-number.number) 512 c.write_block.new.out size (omega arith)))
 
-pub make_actions-made-requires : goal.make_actions-made-requires
-make_actions-made-requires c = let more : c.loop-done.done < c.args.actions = c.loop-done-test.true in
-    let counted = counts (c.args.actions - c.loop-done.done) c.count_of-count.result (omega arith) c.count_of-count.ensures in
-    let few = counted.few in
-    let within = counted.within in
-    let short : c.args.actions ≤ 65535 = c.requires.le_actions.1 in
-    record { allowed = subst (Allowed (users_of c.args.users)) (sym c.loop-done.invariant.nodes) c.requires.allowed; stands_at = c.loop-done.invariant.stands; count_bound = (few, omega arith) }
-
-pub slice_bounds-records-end : goal.slice_bounds-records-end
-slice_bounds-records-end c = let more : c.loop-done.done < c.args.actions = c.loop-done-test.true in
-    let counted = counts (c.args.actions - c.loop-done.done) c.count_of-count.result (omega arith) c.count_of-count.ensures in
-    let len : length c.make_actions-made.result.records ≡ 496 = search (rules, c.make_actions-made.type_inv) in
-    let few = counted.few in
-    omega arith
-
-pub slice_bounds-write_block-end-in-loop-done : goal.slice_bounds-write_block-end-in-loop-done
-slice_bounds-write_block-end-in-loop-done c = let more : c.loop-done.done < c.args.actions = c.loop-done-test.true in
-    let counted = counts (c.args.actions - c.loop-done.done) c.count_of-count.result (omega arith) c.count_of-count.ensures in
-    let len : length c.make_actions-made.result.records ≡ 496 = search (rules, c.make_actions-made.type_inv) in
-    let few = counted.few in
-    sym (length-take-le (16 * c.count_of-count.result) c.make_actions-made.result.records (omega arith))
-
-pub store-requires : goal.store-requires
-store-requires c = let more : c.loop-done.done < c.args.actions = c.loop-done-test.true in
-    let counted = counts (c.args.actions - c.loop-done.done) c.count_of-count.result (omega arith) c.count_of-count.ensures in
-    let us = users_of c.args.users in
-    let bytes = take (16 * c.count_of-count.result) c.make_actions-made.result.records in
-    let took : c.write_block.result.refusal ≡ 0 = c.write_block.ensures.refusal_value ∙ next_taken us c.args.n c.args.actions c.requires.allowed c.requires.le_actions.1 c.args.file.now c.loop-done.file c.loop-done.t c.loop-done.number c.loop-done.done c.count_of-count.result c.loop-done.invariant more counted bytes c.make_actions-made.ensures.records_value in
-    let is : c.write_block.new.out ≡ block_with c.loop-done.number c.args.n bytes = c.write_block.ensures.out_after ∙ written_is _ _ _ took in
-    let size = ap length is ∙ next_size us c.args.n c.args.actions c.requires.allowed c.requires.le_actions.1 c.args.file.now c.loop-done.file c.loop-done.t c.loop-done.number c.loop-done.done c.count_of-count.result c.loop-done.invariant more counted bytes c.make_actions-made.ensures.records_value in
-    let full = c.loop-done.invariant.all_full more in
-    let short : c.args.actions ≤ 65535 = c.requires.le_actions.1 in
-    omega arith
-
-pub overflow_add-done : goal.overflow_add-done
-overflow_add-done c = let more : c.loop-done.done < c.args.actions = c.loop-done-test.true in
-    let counted = counts (c.args.actions - c.loop-done.done) c.count_of-count.result (omega arith) c.count_of-count.ensures in
-    let within = counted.within in
-    search (rules, within)
-
-pub loop-done-smaller : goal.loop-done-smaller
-loop-done-smaller c = let more : c.loop-done.done < c.args.actions = c.loop-done-test.true in
-    let counted = counts (c.args.actions - c.loop-done.done) c.count_of-count.result (omega arith) c.count_of-count.ensures in
-    let within = counted.within in
-    let some = counted.some_left in
-    omega arith
-
-pub loop-done-preserved : goal.loop-done-preserved
-loop-done-preserved c = let more : c.loop-done.done < c.args.actions = c.loop-done-test.true in
-    let counted = counts (c.args.actions - c.loop-done.done) c.count_of-count.result (omega arith) c.count_of-count.ensures in
-    let us = users_of c.args.users in
-    let bytes = take (16 * c.count_of-count.result) c.make_actions-made.result.records in
-    let took : c.write_block.result.refusal ≡ 0 = c.write_block.ensures.refusal_value ∙ next_taken us c.args.n c.args.actions c.requires.allowed c.requires.le_actions.1 c.args.file.now c.loop-done.file c.loop-done.t c.loop-done.number c.loop-done.done c.count_of-count.result c.loop-done.invariant more counted bytes c.make_actions-made.ensures.records_value in
-    let is : c.write_block.new.out ≡ block_with c.loop-done.number c.args.n bytes = c.write_block.ensures.out_after ∙ written_is _ _ _ took in
-    carried_on us c.args.n c.args.actions c.requires.allowed c.requires.le_actions.1 c.args.file.now c.loop-done.file c.loop-done.t c.loop-done.number c.loop-done.done c.count_of-count.result c.loop-done.invariant more counted bytes c.make_actions-made.ensures.records_value
-    c.make_actions-made.result.trial c.write_block.new.out c.store.new.file c.make_actions-made.ensures.n_value c.make_actions-made.ensures.stands_at_2 is c.store.ensures
-
-pub returns : goal.returns
-returns c = let all = carried_all (users_of c.args.users) c.args.n c.args.actions c.args.file.now c.loop-done.file c.loop-done.t c.loop-done.number c.loop-done.done c.loop-done.invariant c.loop-done-test.false in
-    record { value = all.0; file_after = all.1 }
+pub returns-clause-file_after : goal.returns-clause-file_after
+returns-clause-file_after c = (carried_all (users_of c.args.users.now) c.args.n c.args.actions c.args.file.now c.loop-number.file c.loop-number.t c.loop-number.number c.loop-number.invariant (omega arith)).2

@@ -1,4 +1,0 @@
-use Rattle.routes.proofs.search.bare.Goals as goal
-
-pub returns : goal.returns
-returns c = simp c.named.ensures
