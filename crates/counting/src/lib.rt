@@ -34,10 +34,8 @@ fn next_row(row: [u64; 25], table: &[u16; 350]) -> [u64; 25]
     ensures { result ≡ next_row row }
 {
     let mut next: [u64; 25] = [0u64; 25];
-    let mut i: usize = 0;
-    while i < CELLS {
+    for i in 0..CELLS {
         next[place_at(table, i)] += row[i / CLASSES];
-        i += 1;
     }
     next
 }
@@ -52,10 +50,8 @@ pub fn row(k: u8) -> [u64; 25]
     }
     row[REST] = 1;
     let table = link::table::table();
-    let mut length: u8 = 0;
-    while length < k {
+    for _length in 0..k {
         row = next_row(row, &table);
-        length += 1;
     }
     row
 }
@@ -67,11 +63,9 @@ pub fn put_counts(out: &mut [u8; 16384]) -> usize
     ensures out_after { out.new ≡ put out.old 0 counts_text }
 {
     let mut end: usize = 0;
-    let mut k: u8 = 0;
-    while k <= LONGEST {
+    for k in 0..LONGEST + 1 {
         let row = row(k);
         end = figures::put_figures(out, end, k as u64, &row);
-        k += 1;
     }
     end
 }

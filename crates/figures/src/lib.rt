@@ -8,18 +8,16 @@ ghost use Rattle.figures.specs.Figures.{figures_line, room_for};
 // The most bytes of a figure, 20 digits, and the space or newline after it.
 const WIDTH: usize = 21;
 
-// Puts a line that has room.
+// Puts a line that has room. (A `transcript` Line would look for that room again at each piece.)
 fn put_line(out: &mut [u8], at: usize, first: u64, rest: &[u64]) -> usize
     requires { at + room_for rest.now ≤ length out.old }
     ensures upper_bound { result ≤ at + room_for rest.now }
     ensures puts { Puts out.old at (figures_line first rest.now) result out.new }
 {
     let mut end = transcript::put_u64(out, at, first);
-    let mut k: usize = 0;
-    while k < rest.len() {
+    for &x in rest {
         let next = transcript::put_word(out, end, b" ");
-        end = transcript::put_u64(out, next, rest[k]);
-        k += 1;
+        end = transcript::put_u64(out, next, x);
     }
     transcript::put_word(out, end, b"\n")
 }

@@ -27,12 +27,10 @@ pub fn put_table(out: &mut [u8; 8192]) -> usize
     ensures out_after { out.new ≡ put out.old 0 table_text }
 {
     let mut end: usize = 0;
-    let mut k: u16 = 0;
-    while k < CELLS {
+    for k in 0..CELLS {
         let class = k % CLASSES;
         let cell = link::rules::rule((k / CLASSES) as u8, class as u8);
         end = transcript::put_cell(out, end, cell, byte_after(class));
-        k += 1;
     }
     end
 }

@@ -1,6 +1,6 @@
 -- The tally is no longer than the room that it finds. Assumes nothing.
 use Prim.Native.Nat.{ℕ, ◌+◌, ◌<◌, ◌≤◌}
-use mathlib.Core.List.{List, [], ◌∷◌, ◌++◌}
+use mathlib.Core.List.{List, [], ◌++◌}
 use native.Mathlib.Omega.{arith}
 use lib.ListN.{length, length-append}
 use Rattle.charts.specs.declared.Tally.{Tally}
@@ -30,10 +30,10 @@ pub tally_short : (t : Tally) → Small t → length (tally_text t) ≤ 240
 unfolding tally_text
 tally_short t s =
     let all : length (tally_text t) ≤ 90 =
-        then_short (ascii "requests") t.requests _ 75 (omega arith) s.requests
-        (then_short (ascii "wins") t.wins _ 60 (omega arith) s.wins
-        (then_short (ascii "sent") t.sent _ 45 (omega arith) s.sent
-        (then_short (ascii "ack") t.acks _ 30 (omega arith) s.acks
-        (then_short (ascii "miss") t.misses _ 15 (omega arith) s.misses
-        (count_short (ascii "drops") t.drops (omega arith) s.drops))))) in
+    then_short (ascii "requests") t.requests _ 75 (omega arith) s.requests
+    (then_short (ascii "wins") t.wins _ 60 (omega arith) s.wins
+    (then_short (ascii "sent") t.sent _ 45 (omega arith) s.sent
+    (then_short (ascii "ack") t.acks _ 30 (omega arith) s.acks
+    (then_short (ascii "miss") t.misses _ 15 (omega arith) s.misses
+    (count_short (ascii "drops") t.drops (omega arith) s.drops))))) in
     omega arith

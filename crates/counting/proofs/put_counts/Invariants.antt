@@ -7,7 +7,4 @@ use Rattle.counting.proofs.put_counts.Given as goal
 
 -- whoever puts what is left from here on has put all lines
 abbrev pub invariant-loop-k : goal.invariant-loop-k
-invariant-loop-k l = (l.k ≤ 17) × (l.end ≤ 546 * l.k) × ((stop : ℕ) (last : List ℕ) → Puts l.out l.end (texts_from line_for (17 - l.k) l.k) stop last → Puts l.initial.out 0 counts_text stop last)
-
-abbrev pub decreases-loop-k : goal.decreases-loop-k
-decreases-loop-k l = 17 - l.k
+invariant-loop-k l = (l.end ≤ 546 * l.k) × ((stop : ℕ) (last : List ℕ) → Puts l.out l.end (texts_from line_for (17 - l.k) l.k) stop last → Puts l.initial.out 0 counts_text stop last)

@@ -1,7 +1,6 @@
 use mathlib.Core.Path.{◌≡◌, refl, sym, ◌∙◌}
 use native.Mathlib.Numerals.{add-one}
 use native.Mathlib.Omega.{arith}
-use borrow.Author.Rules.{rules}
 use borrow.Author.Tests.{lt-leb}
 use Rattle.charts.proofs.Sequences.{follows, row_0}
 use Rattle.counting.specs.Rows.{row_made}
@@ -13,14 +12,14 @@ unfolding row_made
 returns-then-k-gt-LONGEST c = rw (lt-leb c.args.k 16 (omega (arith, c.if-k-gt-LONGEST.true))) refl
 
 pub loop-length-init : goal.loop-length-init
-loop-length-init c = (search rules, sym row_0)
+loop-length-init c = sym row_0
 
 pub next_row-row-requires : goal.next_row-row-requires
-next_row-row-requires c = record { table_value = c.table-table.ensures; row_bound = rw c.loop-length.invariant.1 (row_small c.loop-length.length (omega (arith, c.loop-length-test.true, c.if-k-gt-LONGEST.false))) }
+next_row-row-requires c = record { table_value = c.table-table.ensures; row_bound = rw c.loop-length.invariant (row_small c.loop-length._length (omega (arith, c.loop-length-test.true, c.if-k-gt-LONGEST.false))) }
 
 pub loop-length-preserved : goal.loop-length-preserved
-loop-length-preserved c = (search rules, c.next_row-row.ensures ∙ rw (add-one c.loop-length.length, c.loop-length.invariant.1) (sym (follows c.loop-length.length)))
+loop-length-preserved c = c.next_row-row.ensures ∙ rw (add-one c.loop-length._length, c.loop-length.invariant) (sym (follows c.loop-length._length))
 
 pub returns : goal.returns
-returns c = let all : c.loop-length.length ≡ c.args.k = omega (arith, c.loop-length.invariant.0, c.loop-length-test.false) in
-    rw (made c.args.k (omega (arith, c.if-k-gt-LONGEST.false)), ← all) c.loop-length.invariant.1
+returns c = let all : c.loop-length._length ≡ c.args.k = omega (arith, c.loop-length.auto._length-end, c.loop-length-test.false) in
+    rw (made c.args.k (omega (arith, c.if-k-gt-LONGEST.false)), ← all) c.loop-length.invariant

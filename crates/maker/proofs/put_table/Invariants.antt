@@ -7,7 +7,4 @@ use Rattle.maker.proofs.put_table.Given as goal
 
 -- whoever puts what is left from here on has put the table
 abbrev pub invariant-loop-k : goal.invariant-loop-k
-invariant-loop-k l = (l.k ≤ 350) × (l.end ≤ 12 * l.k) × ((stop : ℕ) (last : List ℕ) → Puts l.out l.end (texts_from cell_at (350 - l.k) l.k) stop last → Puts l.initial.out 0 table_text stop last)
-
-abbrev pub decreases-loop-k : goal.decreases-loop-k
-decreases-loop-k l = 350 - l.k
+invariant-loop-k l = (l.end ≤ 12 * l.k) × ((stop : ℕ) (last : List ℕ) → Puts l.out l.end (texts_from cell_at (350 - l.k) l.k) stop last → Puts l.initial.out 0 table_text stop last)
