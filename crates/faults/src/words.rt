@@ -309,7 +309,11 @@ fn put_cause(line: &mut Line, cause: Cause, w: &[u8])
         }
         Cause::Closed => put_said(line, w, b": not open when its turn comes"),
         Cause::Depth => {
-            put_said(line, w, b": a route has at most 6 actions, on a bus of at most 8 nodes")
+            put_said(
+                line,
+                w,
+                b": a route has at most 6 actions, on a bus of at most 8 nodes",
+            )
         }
     }
 }

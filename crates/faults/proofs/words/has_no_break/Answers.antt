@@ -16,8 +16,8 @@ loop-k-preserved c =
     let step = break_step c.args.w.now c.loop-k.k c.loop-k.auto.k c.loop-k-test.true in
     let next : c.loop-k.k + 1 - 1 ≡ c.loop-k.k = omega arith in
     elim c.else-w-k.branch [
-      else-w-k-via-then-w-k+else-w-k-2 w ↦ rw next (sym (rw (eq-eqb _ _ w.if-w-k.true, ne_eqb _ _ w.if-w-k-2.false) at step) ∙ c.loop-k.invariant)
-    | else-w-k-via-else-w-k w ↦ rw next (sym (rw (ne_eqb _ _ w.if-w-k.false) at step) ∙ c.loop-k.invariant)
+      | else-w-k-via-then-w-k+else-w-k-2 w ↦ rw next (sym (rw (eq-eqb _ _ w.if-w-k.true, ne_eqb _ _ w.if-w-k-2.false) at step) ∙ c.loop-k.invariant)
+      | else-w-k-via-else-w-k w ↦ rw next (sym (rw (ne_eqb _ _ w.if-w-k.false) at step) ∙ c.loop-k.invariant)
     ]
 
 pub returns : goal.returns

@@ -11,6 +11,6 @@ returns-else-has_star c =
     let plain = sym c.has_control.ensures ∙ c.if-has_control.false in
     let breaks = sym c.has_no_break.ensures ∙ c.if-has_no_break.false in
     elim c.else-has_star.branch [
-      else-has_star-via-then-has_star+else-w-gt1 w ↦ rw (plain, breaks, sym c.has_star.ensures ∙ w.if-has_star.true, le-ltb _ _ w.if-w-gt1.false)
-    | else-has_star-via-else-has_star w ↦ rw (plain, breaks, sym c.has_star.ensures ∙ w.if-has_star.false)
+      | else-has_star-via-then-has_star+else-w-gt1 w ↦ rw (plain, breaks, sym c.has_star.ensures ∙ w.if-has_star.true, le-ltb _ _ w.if-w-gt1.false)
+      | else-has_star-via-else-has_star w ↦ rw (plain, breaks, sym c.has_star.ensures ∙ w.if-has_star.false)
     ]
