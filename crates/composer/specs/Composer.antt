@@ -3,8 +3,6 @@ use Rattle.std.specs.Prelude.{true, false, cond, not, List, ℕ, ◌+◌, ◌*�
 use Rattle.charts.specs.Numbers as N
 use Rattle.charts.specs.Records.{Decoded, read}
 use Rattle.charts.specs.declared.Action.{Action}
-use Rattle.charts.specs.declared.Refusal.{Refusal}
-use Rattle.charts.specs.declared.Refusal.TheVariants as R
 use Rattle.charts.specs.Layout.{bytes_of}
 use Rattle.record.specs.Bytes.{put_at}
 use Rattle.runfile.specs.Write.{write_number, block_with}
@@ -18,7 +16,7 @@ use Rattle.composer.specs.declared.Composer.{Composer}
 use Rattle.composer.specs.declared.Wrote.{Wrote}
 use Rattle.words.specs.Words.{limit}
 use Rattle.notation.specs.Grammar.{line_of}
-use Rattle.notation.specs.Reading.{counted, nodes_stage}
+use Rattle.notation.specs.Reading.{counted, nodes_stage, refusal_at}
 
 -- the composer stopped by a fault; on the next line; with so many nodes; with an action to put so often
 abbrev pub stopped : Composer → Fault → Composer
@@ -117,25 +115,6 @@ feed_of c line =
 -- nothing is written
 abbrev pub quiet : Composer → Wrote
 quiet c = record { composer = c; written = false }
-
--- the refusal that has a number
-abbrev pub refusal_at : ℕ → Refusal
-refusal_at k =
-    cond (eqb k N.wrong_kind) R.WrongKind
-    (cond (eqb k N.stray_field) R.StrayField
-    (cond (eqb k N.wrong_node) R.WrongNode
-    (cond (eqb k N.wrong_address) R.WrongAddress
-    (cond (eqb k N.wrong_answer) R.WrongAnswer
-    (cond (eqb k N.not_open) R.NotOpen
-    (cond (eqb k N.wrong_length) R.WrongLength
-    (cond (eqb k N.wrong_check) R.WrongCheck
-    (cond (eqb k N.wrong_order) R.WrongOrder
-    (cond (eqb k N.wrong_count) R.WrongCount
-    (cond (eqb k N.not_valid) R.NotValid
-    (cond (eqb k N.wrong_label) R.WrongLabel
-    (cond (eqb k N.too_deep) R.TooDeep
-    (cond (eqb k N.to_itself) R.ToItself
-    R.WrongSize)))))))))))))
 
 -- the block under way written, its records being the first `size` bytes: "none follows 4,294,967,295"
 abbrev pub written_as : Composer → ℕ → Wrote
