@@ -1,5 +1,5 @@
 -- A block of a run file as it is written.
-use Rattle.std.specs.Prelude.{◌≡◌, Bool, cond, ◌&&◌, not, List, [], ◌∷◌, ◌++◌, ℕ, ◌-◌, ◌/◌, ◌%◌, eqb, length, true, Result, Ok, Err}
+use Rattle.std.specs.Prelude.{◌≡◌, Bool, cond, ◌&&◌, not, List, [], ◌∷◌, ◌++◌, ℕ, ◌-◌, ◌/◌, ◌%◌, eqb, length, true, Option, Some, None, Result, Ok, Err}
 use Rattle.std.proofs.lemmas.List.Edits.{sets}
 use Rattle.charts.specs.Numbers as N
 use Rattle.charts.specs.Valid.{is_size}
@@ -10,7 +10,7 @@ use Rattle.charts.specs.declared.Refusal.{Refusal}
 use Rattle.charts.specs.Layout.{little, actions_of, records_of}
 use Rattle.runfile.specs.declared.Summed.{Summed}
 use Rattle.runfile.specs.Block.{is_count, weigh, zeros, check_sum, holds, read_block, used_bytes}
-use Rattle.runfile.specs.Sums.{sums_for}
+use Rattle.runfile.specs.Sums.{sums_for, sums_of}
 
 -- "then 2 to 6 for each action", 13 "looked at after 5, by the writer too", and 15 (request 10: "the writer does not write one"): the first refusal, or 0
 abbrev pub refused_or : Decoded → ℕ → ℕ
@@ -60,6 +60,11 @@ block_of number n l = block_with number n (records_of l)
 -- "A refused write leaves its buffer as it was": what the buffer holds after a write that answered that number
 abbrev pub written : ℕ → List ℕ → List ℕ → List ℕ
 written number old new = cond (eqb number N.accepted) new old
+
+-- request 5: "to return beside the block 31 numbers for tracing"; "0 past the count and when refused": the sums beside such a block
+abbrev pub sums_given : Option Refusal → List ℕ → List ℕ
+sums_given None block = sums_of block
+sums_given (Some k) block = zeros 31
 
 -- what the writer has when it took all actions: they stand in a block, their bytes are summed, and so are those of the first k
 pub record Takes (records : List ℕ) (count : ℕ) (r : Summed) : Type 0 where

@@ -3,11 +3,11 @@
 
 ghost use Rattle.std.specs.Prelude.{◌≡◌, true, cond, ◌&&◌, ◌+◌, ◌*◌, ◌/◌, ◌<◌, ◌≤◌, eqb, length, take, IfOk};
 ghost use Rattle.std.proofs.lemmas.List.Edits.{sets};
-ghost use Rattle.charts.specs.Numbers.{err_number};
+ghost use Rattle.charts.specs.Numbers.{refusal_number, err_number};
 ghost use Rattle.charts.specs.Layout.{actions_of};
 ghost use Rattle.runfile.specs.Block.{weigh, total, plus, check_of, is_count, zeros, all_zero, count_in, head_of, head_fits, count_fits, read_block, block_fits, used_bytes};
 ghost use Rattle.runfile.specs.Sums.{sums_of};
-ghost use Rattle.runfile.specs.Write.{first_refusal, Called, write_number, Takes, block_with, written};
+ghost use Rattle.runfile.specs.Write.{first_refusal, Called, write_number, Takes, block_with, written, sums_given};
 
 use charts::Refusal;
 use record::{decode, is_size, number_of, read_action};
@@ -237,10 +237,10 @@ fn store_head(block: &mut [u8], number: u32, n: u8, records: &[u8], sum: u32)
     block[510..].copy_from_slice(&check.to_le_bytes());
 }
 
-// Writes a block of the action records whose bytes are given, and gives the sums of its actions; or refuses, and leaves the lent buffer as it was.
+// Stores a block of the action records whose bytes are given, and gives the sums of its actions; or refuses, and leaves the lent buffer as it was.
 // 8, 1 and 11 are looked at before the first store, and each action before its own. All stores go into 512 bytes of the writer's own,
 // which become the buffer's when nothing is left that could be refused.
-pub fn write_block(out: &mut [u8], number: u32, n: u8, records: &[u8]) -> Result<[u32; 31], Refusal>
+fn store_block(out: &mut [u8], number: u32, n: u8, records: &[u8]) -> Result<[u32; 31], Refusal>
     ensures refusal_value { err_number result ≡ write_number (length out.old) n records.now }
     ensures out_after { out.new ≡ written (err_number result) out.old (block_with number n records.now) }
     ensures sums_value { IfOk result (λ sums. sums ≡ sums_of (block_with number n records.now)) }
@@ -251,4 +251,29 @@ pub fn write_block(out: &mut [u8], number: u32, n: u8, records: &[u8]) -> Result
     store_head(&mut block, number, n, records, taken.sum);
     out.copy_from_slice(&block);
     Ok(taken.sums)
+}
+
+// What a write gives beside the block: its refusal, if it is refused, and the sums of the block's actions.
+#[derive(Clone, Copy)]
+pub struct Traced {
+    pub refusal: Option<Refusal>,
+    pub sums: [u32; 31],
+}
+
+// Writes a block of the action records whose bytes are given; or refuses, and leaves the lent buffer as it was. The sums of a refused write are 0.
+pub fn write_block(out: &mut [u8], number: u32, n: u8, records: &[u8]) -> Traced
+    ensures refusal_value { refusal_number result.refusal ≡ write_number (length out.old) n records.now }
+    ensures out_after { out.new ≡ written (refusal_number result.refusal) out.old (block_with number n records.now) }
+    ensures sums_value { result.sums ≡ sums_given result.refusal (block_with number n records.now) }
+{
+    match store_block(out, number, n, records) {
+        Ok(sums) => Traced {
+            refusal: None,
+            sums,
+        },
+        Err(refusal) => Traced {
+            refusal: Some(refusal),
+            sums: [0u32; 31],
+        },
+    }
 }

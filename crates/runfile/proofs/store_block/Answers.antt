@@ -1,7 +1,7 @@
 use mathlib.Core.Path.{sym, ◌∙◌}
 use borrow.Author.Rules.{rules}
 use Rattle.runfile.proofs.Written.{block_sums, called}
-use Rattle.runfile.proofs.write_block.Goals as goal
+use Rattle.runfile.proofs.store_block.Goals as goal
 
 pub returns-in_err-taken-clause-refusal_value : goal.returns-in_err-taken-clause-refusal_value
 returns-in_err-taken-clause-refusal_value c = rw (called _ _ _ c.in_ok-look_at_call.ensures, ← c.in_err-taken.ensures.refusal_value) (search rules)
