@@ -134,8 +134,8 @@ fn flush(c: Composer, size: usize, out: &mut [u8; 512]) -> Wrote
     if BLOCKS <= c.blocks {
         return quiet(stop(c, Fault::TooMany));
     }
-    match runfile::write_block(out, c.blocks as u32, c.n, &c.records[..size]) {
-        Ok(_) => Wrote {
+    match runfile::write_block(out, c.blocks as u32, c.n, &c.records[..size]).refusal {
+        None => Wrote {
             composer: Composer {
                 blocks: c.blocks + 1,
                 count: 0,
@@ -143,7 +143,7 @@ fn flush(c: Composer, size: usize, out: &mut [u8; 512]) -> Wrote
             },
             written: true,
         },
-        Err(refusal) => quiet(stop(c, Fault::Refused(refusal))),
+        Some(refusal) => quiet(stop(c, Fault::Refused(refusal))),
     }
 }
 

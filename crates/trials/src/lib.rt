@@ -95,7 +95,7 @@ fn carry_through(n: u8, users: &Users, actions: u32, file: &mut [u8; 1082880]) -
         let count = (actions - done).min(31) as usize;
         let records = block::make_actions(&mut t, users, done, count);
         let at = 512 * (number as usize);
-        let _ = runfile::write_block(&mut file[at..at + 512], number, n, &records[..16 * count]);
+        runfile::write_block(&mut file[at..at + 512], number, n, &records[..16 * count]);
     }
     (512 * (blocks as usize), t.tally)
 }

@@ -3,7 +3,7 @@ use mathlib.Core.Path.{◌≡◌, sym, ap, ◌∙◌}
 use native.Mathlib.Omega.{arith}
 use lib.ListN.{length, take}
 use borrow.Author.Rules.{rules}
-use Rattle.charts.specs.Numbers.{err_number}
+use Rattle.charts.specs.Numbers.{refusal_number}
 use Rattle.charts.specs.View.{users_of}
 use borrow.Rule.Slice.PartMut.{mid_len}
 use Rattle.charts.specs.Layout.{records_of}
@@ -30,7 +30,7 @@ loop-number-preserved c =
     let k : 512 * c.loop-number.number + 512 - 512 * c.loop-number.number ≡ 512 = omega arith in
     let room : 512 * c.loop-number.number + 512 ≤ 1082880 = omega arith in
     let asked = mid_len (512 * c.loop-number.number) (512 * c.loop-number.number + 512) c.loop-number.file (omega arith) ∙ k in
-    let took : err_number c.write_block.result ≡ 0 = c.write_block.ensures.refusal_value ∙ (ap (λ s. write_number s c.args.n bytes) asked ∙ next_taken us c.args.n c.args.actions c.requires.allowed c.requires.le_actions.1 c.args.file.now c.loop-number.file c.loop-number.t c.loop-number.number count x full.0 counted bytes made) in
+    let took : refusal_number c.write_block.result.refusal ≡ 0 = c.write_block.ensures.refusal_value ∙ (ap (λ s. write_number s c.args.n bytes) asked ∙ next_taken us c.args.n c.args.actions c.requires.allowed c.requires.le_actions.1 c.args.file.now c.loop-number.file c.loop-number.t c.loop-number.number count x full.0 counted bytes made) in
     let is : c.write_block.new.out ≡ block_with c.loop-number.number c.args.n bytes = c.write_block.ensures.out_after ∙ written_is _ _ _ took in
     let size : length c.write_block.new.out ≡ 512 = ap length is ∙ next_size us c.args.n c.args.actions c.requires.allowed c.requires.le_actions.1 c.args.file.now c.loop-number.file c.loop-number.t c.loop-number.number count x full.0 counted bytes made in
     carried_on us c.args.n c.args.actions c.requires.allowed c.requires.le_actions.1 c.args.file.now c.loop-number.file c.loop-number.t c.loop-number.number count x full.0 counted bytes made
