@@ -1,9 +1,7 @@
 -- The answer to a question as text: "the route as lines in plain words, or `none`, or the refusal".
 use Rattle.std.specs.Prelude.{cond, List, [], ◌∷◌, ℕ, ltb, get_or, Option, Some, None, Result, Ok, Err}
 use Rattle.charts.specs.declared.Action.{Action}
-use Rattle.charts.specs.declared.Refusal.{Refusal}
 use Rattle.charts.specs.declared.Route.{Route}
-use Rattle.charts.specs.Numbers.{number_of}
 use Rattle.charts.specs.Records.{blank}
 use Rattle.transcript.specs.Lines.{line, texts_from}
 use Rattle.transcript.specs.Printed.{action_line}
@@ -25,8 +23,8 @@ refused_text k = line (ascii "refused" ∷ decimal k ∷ [])
 abbrev pub none_text : List ℕ
 none_text = ascii "none\n"
 
-unfoldable pub answer_text : Result (Option Route) Refusal → List ℕ
-answer_text (Err refusal) = refused_text (number_of refusal)
+unfoldable pub answer_text : Result (Option Route) ℕ → List ℕ
+answer_text (Err k) = refused_text k
 answer_text (Ok None) = none_text
 answer_text (Ok (Some route)) = route_text route.count route.actions
 

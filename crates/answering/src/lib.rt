@@ -2,12 +2,11 @@
 #![tactic(auto, using(transcript::proofs::Writes::pieces))]
 
 ghost use Rattle.std.specs.Prelude.{◌≡◌, ◌+◌, ◌≤◌, length};
-ghost use Rattle.charts.specs.Numbers.{number_of};
 ghost use Rattle.transcript.specs.Room.{end_in, put_in};
 ghost use Rattle.transcript.specs.Writer.{written};
 ghost use Rattle.answering.specs.Answering.{room, held, route_text, refused_text, answer_text};
 
-use charts::{Answer, Refusal, Route};
+use charts::Route;
 use transcript::writer::Line;
 
 // Six lines of at most 64 bytes.
@@ -32,21 +31,22 @@ fn put_route(line: &mut Line, route: Route)
 }
 
 // The number of a refusal.
-fn put_refused(line: &mut Line, refusal: Refusal)
-    ensures { line.new ≡ written line.old (refused_text (number_of refusal)) }
+fn put_refused(line: &mut Line, number: u8)
+    ensures short { length (refused_text number) ≤ room }
+    ensures writes { line.new ≡ written line.old (refused_text number) }
 {
     line.word(b"refused ");
-    line.figure(refusal.number() as u64);
+    line.figure(number as u64);
     line.byte(b'\n');
 }
 
 #[tactic(auto, using(transcript::proofs::Writes::pieces), unfolding(crate::specs::Answering::answer_text))]
-fn put_lines(line: &mut Line, x: Answer)
+fn put_lines(line: &mut Line, x: Result<Option<Route>, u8>)
     ensures short { length (answer_text x) ≤ room }
     ensures writes { line.new ≡ written line.old (answer_text x) }
 {
     match x {
-        Err(refusal) => put_refused(line, refusal),
+        Err(number) => put_refused(line, number),
         Ok(None) => line.word(b"none\n"),
         Ok(Some(route)) => put_route(line, route),
     }
@@ -54,7 +54,7 @@ fn put_lines(line: &mut Line, x: Answer)
 
 // The answer: the route, an action a line, or `none`, or `refused` and the number. Where fewer than 384 bytes are left nothing is put, and the place that was given
 // is returned.
-pub fn put_answer(out: &mut [u8], at: usize, x: Answer) -> usize
+pub fn put_answer(out: &mut [u8], at: usize, x: Result<Option<Route>, u8>) -> usize
     ensures upper_bound { result ≤ at + room }
     ensures value { result ≡ end_in room out.old at (answer_text x) }
     ensures out_after { out.new ≡ put_in room out.old at (answer_text x) }

@@ -1,7 +1,6 @@
 -- Which part of a line is to blame for its fault, and why.
 use Rattle.std.specs.Prelude.{Bool, true, false, cond, not, ◌&&◌, ◌||◌, List, ℕ, zero, suc, ◌+◌, ◌-◌, ◌<◌, ◌≤◌, eqb, ltb, leb, length, take, drop, get_or, Option, Result, Ok, Err}
-use Rattle.charts.specs.declared.Refusal.{Refusal}
-use Rattle.charts.specs.declared.Refusal.TheVariants as R
+use Rattle.charts.specs.Numbers as N
 use Rattle.faults.specs.declared.Fault.{Fault}
 use Rattle.faults.specs.declared.Fault.TheVariants as F
 use Rattle.faults.specs.declared.Cause.{Cause}
@@ -88,20 +87,26 @@ unfoldable pub statement_in : List ℕ → Span
 statement_in line =
     cond (ltb (first_in (text_at line) (length line)) (length line)) (span (first_in (text_at line) (length line)) (after_last (text_at line) (length line))) (span 0 0)
 
--- what a refusal is about
-unfoldable pub refusal_of : ℕ → Refusal → Result Line Fault → Cause
-refusal_of n R.WrongSize (Ok (Nodes m)) = C.Size
-refusal_of n R.WrongNode (Ok (Acts a t)) = C.Node a.node n
-refusal_of n R.WrongAddress (Ok (Acts a t)) = C.Address a.address n
-refusal_of n R.WrongLabel (Ok (Acts a t)) = C.Label a.label
-refusal_of n R.ToItself (Ok (Acts a t)) = C.Own a.node
-refusal_of n R.WrongAnswer (Ok (Acts a t)) = C.Ack a.ack
-refusal_of n R.NotOpen (Ok (Acts a t)) = C.Closed
-refusal_of n R.WrongNode (Ok (L.User i u)) = C.Node i n
-refusal_of n R.WrongAddress (Ok (L.User i u)) = C.Address u.address n
-refusal_of n R.ToItself (Ok (L.User i u)) = C.Own i
-refusal_of n R.TooDeep (Ok (Finds q d)) = C.Depth
-refusal_of n R.WrongNode (Ok (Finds q d)) = C.Node q.node n
+-- what a refusal by number k is about
+unfoldable pub refusal_of : ℕ → ℕ → Result Line Fault → Cause
+refusal_of n k (Ok (Nodes m)) = cond (eqb k N.wrong_size) C.Size C.Plain
+refusal_of n k (Ok (Acts a t)) =
+    cond (eqb k N.wrong_node) (C.Node a.node n)
+    (cond (eqb k N.wrong_address) (C.Address a.address n)
+    (cond (eqb k N.wrong_label) (C.Label a.label)
+    (cond (eqb k N.to_itself) (C.Own a.node)
+    (cond (eqb k N.wrong_answer) (C.Ack a.ack)
+    (cond (eqb k N.not_open) C.Closed
+    C.Plain)))))
+refusal_of n k (Ok (L.User i u)) =
+    cond (eqb k N.wrong_node) (C.Node i n)
+    (cond (eqb k N.wrong_address) (C.Address u.address n)
+    (cond (eqb k N.to_itself) (C.Own i)
+    C.Plain))
+refusal_of n k (Ok (Finds q d)) =
+    cond (eqb k N.too_deep) C.Depth
+    (cond (eqb k N.wrong_node) (C.Node q.node n)
+    C.Plain)
 refusal_of n k x = C.Plain
 
 abbrev pub blamed : Cause → Span → Blamed

@@ -136,24 +136,24 @@ fn kind_of(line: &[u8]) -> Option<Name>
     }
 }
 
-// What a refusal is about.
+// What a refusal by number k is about.
 #[tactic(auto, unfolding(crate::specs::Blame::refusal_of))]
-fn refusal(n: u8, why: Refusal, said: Result<Line, Fault>) -> Cause
-    ensures { result ≡ refusal_of n why said }
+fn refusal(n: u8, k: u8, said: Result<Line, Fault>) -> Cause
+    ensures { result ≡ refusal_of n k said }
 {
-    match (said, why) {
-        (Ok(Line::Nodes(_)), Refusal::WrongSize) => Cause::Size,
-        (Ok(Line::Acts(a, _)), Refusal::WrongNode) => Cause::Node(a.node, n),
-        (Ok(Line::Acts(a, _)), Refusal::WrongAddress) => Cause::Address(a.address, n),
-        (Ok(Line::Acts(a, _)), Refusal::WrongLabel) => Cause::Label(a.label),
-        (Ok(Line::Acts(a, _)), Refusal::ToItself) => Cause::Own(a.node),
-        (Ok(Line::Acts(a, _)), Refusal::WrongAnswer) => Cause::Ack(a.ack),
-        (Ok(Line::Acts(_, _)), Refusal::NotOpen) => Cause::Closed,
-        (Ok(Line::User(node, _)), Refusal::WrongNode) => Cause::Node(node, n),
-        (Ok(Line::User(_, u)), Refusal::WrongAddress) => Cause::Address(u.address, n),
-        (Ok(Line::User(node, _)), Refusal::ToItself) => Cause::Own(node),
-        (Ok(Line::Finds(_, _)), Refusal::TooDeep) => Cause::Depth,
-        (Ok(Line::Finds(q, _)), Refusal::WrongNode) => Cause::Node(q.node, n),
+    match said {
+        Ok(Line::Nodes(_)) if k == Refusal::WrongSize.number() => Cause::Size,
+        Ok(Line::Acts(a, _)) if k == Refusal::WrongNode.number() => Cause::Node(a.node, n),
+        Ok(Line::Acts(a, _)) if k == Refusal::WrongAddress.number() => Cause::Address(a.address, n),
+        Ok(Line::Acts(a, _)) if k == Refusal::WrongLabel.number() => Cause::Label(a.label),
+        Ok(Line::Acts(a, _)) if k == Refusal::ToItself.number() => Cause::Own(a.node),
+        Ok(Line::Acts(a, _)) if k == Refusal::WrongAnswer.number() => Cause::Ack(a.ack),
+        Ok(Line::Acts(_, _)) if k == Refusal::NotOpen.number() => Cause::Closed,
+        Ok(Line::User(node, _)) if k == Refusal::WrongNode.number() => Cause::Node(node, n),
+        Ok(Line::User(_, u)) if k == Refusal::WrongAddress.number() => Cause::Address(u.address, n),
+        Ok(Line::User(node, _)) if k == Refusal::ToItself.number() => Cause::Own(node),
+        Ok(Line::Finds(_, _)) if k == Refusal::TooDeep.number() => Cause::Depth,
+        Ok(Line::Finds(q, _)) if k == Refusal::WrongNode.number() => Cause::Node(q.node, n),
         _ => Cause::Plain,
     }
 }
@@ -249,9 +249,9 @@ fn blame_in(text: Text, n: u8, line: &[u8], fault: Fault) -> Blamed
             let name = named_at(text, line, line.len());
             nowhere(Cause::Missing(name, place_at(text, line, line.len())))
         }
-        Fault::Refused(why) => {
+        Fault::Refused(k) => {
             let said = notation::parse_line(text, line);
-            at_span(refusal(n, why, said), statement_in(line))
+            at_span(refusal(n, k, said), statement_in(line))
         }
         _ => nowhere(Cause::Plain),
     }

@@ -1,6 +1,7 @@
 -- The composer: what a line, an action put into the block under way, and the text's end make of it.
 use Rattle.std.specs.Prelude.{true, false, cond, not, List, ℕ, ◌+◌, ◌*◌, ◌-◌, eqb, ltb, take, Some, None, is_some, Result, Ok, Err}
 use Rattle.charts.specs.Numbers as N
+use Rattle.charts.specs.Numbers.{number_of}
 use Rattle.charts.specs.Records.{Decoded, read}
 use Rattle.charts.specs.declared.Action.{Action}
 use Rattle.charts.specs.Layout.{bytes_of}
@@ -16,7 +17,7 @@ use Rattle.composer.specs.declared.Composer.{Composer}
 use Rattle.composer.specs.declared.Wrote.{Wrote}
 use Rattle.words.specs.Words.{limit}
 use Rattle.notation.specs.Grammar.{line_of}
-use Rattle.notation.specs.Reading.{counted, nodes_stage, refusal_at}
+use Rattle.notation.specs.Reading.{counted, nodes_stage}
 
 -- the composer stopped by a fault; on the next line; with so many nodes; with an action to put so often
 abbrev pub stopped : Composer → Fault → Composer
@@ -89,7 +90,7 @@ nodes_taken c n = nodes_as c n (nodes_stage c.n n)
 
 -- "the paper's number 1 to 6 for what the writer would refuse"
 abbrev pub read_taken : Composer → Action → ℕ → Decoded → Composer
-read_taken c a k (Err j) = stopped c (Refused j)
+read_taken c a k (Err j) = stopped c (Refused (number_of j))
 read_taken c a k (Ok m) = to_put c a k
 
 unfoldable pub action_taken : Composer → Action → ℕ → Composer
@@ -120,7 +121,7 @@ quiet c = record { composer = c; written = false }
 abbrev pub written_as : Composer → ℕ → Wrote
 written_as c k =
     cond (eqb k N.accepted) (record { composer = with_block c (c.blocks + 1) 0 c.records c.left; written = true })
-    (quiet (stopped c (Refused (refusal_at k))))
+    (quiet (stopped c (Refused k)))
 
 abbrev pub records_in : Composer → ℕ → List ℕ
 records_in c size = take size c.records

@@ -91,7 +91,7 @@ fn take_action(c: Composer, a: Action, k: u32) -> Composer
             left: k,
             ..c
         },
-        Err(refusal) => stop(c, Fault::Refused(refusal)),
+        Err(refusal) => stop(c, Fault::Refused(refusal.number())),
     }
 }
 
@@ -143,7 +143,7 @@ fn flush(c: Composer, size: usize, out: &mut [u8; 512]) -> Wrote
             },
             written: true,
         },
-        Some(refusal) => quiet(stop(c, Fault::Refused(refusal))),
+        Some(refusal) => quiet(stop(c, Fault::Refused(refusal.number()))),
     }
 }
 

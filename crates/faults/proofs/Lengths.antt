@@ -9,9 +9,6 @@ use lib.Dec.{ltb}
 use lib.ListN.{length, take, length-append}
 use lib.Seq.{length-take-le}
 use Rattle.std.specs.Prelude.{eqb, ◌&&◌}
-use Rattle.charts.specs.declared.Refusal.{Refusal}
-use Rattle.charts.specs.declared.Refusal.TheVariants as R
-use Rattle.charts.specs.Numbers.{number_of}
 use Rattle.transcript.specs.Text.{ascii, decimal}
 use Rattle.transcript.proofs.Lengths.{byte_short, short_8, cond_short}
 use Rattle.faults.specs.declared.Fault.{Fault}
@@ -22,40 +19,9 @@ use Rattle.faults.specs.declared.words.Field.{Field}
 use Rattle.faults.specs.declared.words.Field.TheVariants as W
 use Rattle.faults.specs.Faults.{fault_words, escaped, shown_byte, shown_bytes, shown, has_control, has_no_break, has_star, hint, quoted, field_of, field_words, setting_words, question_words, most_words, word_of, said_of, said_with, cause_words, fault_line}
 
-number_short : (k : Refusal) → length (decimal (number_of k)) ≤ 3
-number_short R.WrongSize = byte_short (number_of R.WrongSize) (omega arith)
-number_short R.WrongKind = byte_short (number_of R.WrongKind) (omega arith)
-number_short R.StrayField = byte_short (number_of R.StrayField) (omega arith)
-number_short R.WrongNode = byte_short (number_of R.WrongNode) (omega arith)
-number_short R.WrongAddress = byte_short (number_of R.WrongAddress) (omega arith)
-number_short R.WrongAnswer = byte_short (number_of R.WrongAnswer) (omega arith)
-number_short R.NotOpen = byte_short (number_of R.NotOpen) (omega arith)
-number_short R.WrongLength = byte_short (number_of R.WrongLength) (omega arith)
-number_short R.WrongCheck = byte_short (number_of R.WrongCheck) (omega arith)
-number_short R.WrongOrder = byte_short (number_of R.WrongOrder) (omega arith)
-number_short R.WrongCount = byte_short (number_of R.WrongCount) (omega arith)
-number_short R.NotValid = byte_short (number_of R.NotValid) (omega arith)
-number_short R.WrongLabel = byte_short (number_of R.WrongLabel) (omega arith)
-number_short R.TooDeep = byte_short (number_of R.TooDeep) (omega arith)
-number_short R.ToItself = byte_short (number_of R.ToItself) (omega arith)
-
-fault_short : (f : Fault) → length (fault_words f) ≤ 20
+pub refused_short : (k : ℕ) → k < 256 → length (fault_words (F.Refused k)) ≤ 20
 unfolding fault_words
-fault_short F.UnknownWord = omega arith
-fault_short F.NotNumber = omega arith
-fault_short F.TooLarge = omega arith
-fault_short F.MissingField = omega arith
-fault_short F.ExtraField = omega arith
-fault_short F.NoRepeat = omega arith
-fault_short F.LongLine = omega arith
-fault_short F.NodesMissing = omega arith
-fault_short F.NodesAgain = omega arith
-fault_short F.NoUser = omega arith
-fault_short F.NoAction = omega arith
-fault_short F.TooMany = omega arith
-fault_short F.NoQuestion = omega arith
-fault_short F.AfterQuestion = omega arith
-fault_short (F.Refused k) = let a = length-append (ascii "refused ") (decimal (number_of k)) in let b = number_short k in omega arith
+refused_short k h = let a = length-append (ascii "refused ") (decimal k) in let b = byte_short k h in omega arith
 
 byte_shown : (b : ℕ) → length (shown_byte b) ≤ 4
 unfolding shown_byte
@@ -205,12 +171,11 @@ cause_short (C.Ack ack) w h =
 cause_short C.Closed w h = let a = said_short w (ascii ": not open when its turn comes") 80 (omega arith) in omega arith
 cause_short C.Depth w h = let a = said_short w (ascii ": a route has at most 6 actions, on a bus of at most 8 nodes") 80 (omega arith) in omega arith
 
-pub line_short : (number : ℕ) (f : Fault) (cause : Cause) (w : List ℕ) → number < 18446744073709551616 → length (cause_words cause w) ≤ 400 → length (fault_line number f cause w) ≤ 512
+pub line_short : (number : ℕ) (f : Fault) (cause : Cause) (w : List ℕ) → number < 18446744073709551616 → length (fault_words f) ≤ 20 → length (cause_words cause w) ≤ 400 → length (fault_line number f cause w) ≤ 512
 unfolding fault_line
-line_short number f cause w h g =
+line_short number f cause w h e g =
     let a = length-append (decimal number) (ascii ": " ++ (fault_words f ++ (cause_words cause w ++ (10 ∷ [])))) in
     let b = length-append (fault_words f) (cause_words cause w ++ (10 ∷ [])) in
     let c = length-append (cause_words cause w) (10 ∷ []) in
     let d = short_8 number h in
-    let e = fault_short f in
     omega arith

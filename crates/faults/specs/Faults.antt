@@ -1,7 +1,6 @@
 -- What `compose` says of a fault, and why: "What can be wrong".
 use Rattle.std.specs.Prelude.{Bool, false, cond, ◌&&◌, ◌||◌, List, [], ◌∷◌, ◌++◌, ℕ, ◌+◌, ◌-◌, ◌/◌, ◌%◌, eqb, ltb, length, take, get_or}
 use Rattle.std.specs.List.{list_any}
-use Rattle.charts.specs.Numbers.{number_of}
 use Rattle.faults.specs.declared.Fault.{Fault}
 use Rattle.faults.specs.declared.Fault.TheVariants as F
 use Rattle.faults.specs.declared.Cause.{Cause}
@@ -26,7 +25,7 @@ fault_words F.NoAction = ascii "no action"
 fault_words F.TooMany = ascii "too many actions"
 fault_words F.NoQuestion = ascii "no find line"
 fault_words F.AfterQuestion = ascii "a line after find"
-fault_words (F.Refused refusal) = ascii "refused " ++ decimal (number_of refusal)
+fault_words (F.Refused k) = ascii "refused " ++ decimal k
 
 -- "`\x` and two hexadecimal digits (`\xC2`)"
 abbrev pub hex_digit : ℕ → ℕ

@@ -7,10 +7,9 @@ ghost use Rattle.std.specs.Prelude.{◌≡◌, ◌+◌, ◌≤◌};
 ghost use Rattle.transcript.specs.Room.{end_in, put_in};
 ghost use Rattle.faults.specs.Faults.{longest, fault_line};
 
-use charts::Refusal;
 use transcript::writer::Line;
 
-// What is wrong in a line of a text or in a text.
+// What is wrong in a line of a text or in a text. A refusal has its number.
 #[derive(Clone, Copy, PartialEq, Eq)]
 pub enum Fault {
     UnknownWord,
@@ -27,7 +26,7 @@ pub enum Fault {
     TooMany,
     NoQuestion,
     AfterQuestion,
-    Refused(Refusal),
+    Refused(u8),
 }
 
 // What more can be said of a fault, with a part of its line beside it.

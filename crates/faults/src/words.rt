@@ -37,7 +37,8 @@ enum Field {
 
 #[tactic(auto, using(transcript::proofs::Writes::pieces), unfolding(crate::specs::Faults::fault_words))]
 fn put_fault_words(line: &mut Line, fault: Fault)
-    ensures { line.new ≡ written line.old (fault_words fault) }
+    ensures short { length (fault_words fault) ≤ 20 }
+    ensures writes { line.new ≡ written line.old (fault_words fault) }
 {
     match fault {
         Fault::UnknownWord => line.word(b"unknown word"),
@@ -54,9 +55,9 @@ fn put_fault_words(line: &mut Line, fault: Fault)
         Fault::TooMany => line.word(b"too many actions"),
         Fault::NoQuestion => line.word(b"no find line"),
         Fault::AfterQuestion => line.word(b"a line after find"),
-        Fault::Refused(refusal) => {
+        Fault::Refused(number) => {
             line.word(b"refused ");
-            line.figure(refusal.number() as u64);
+            line.figure(number as u64);
         }
     }
 }

@@ -8,7 +8,8 @@ use stream::Failure;
 
 fn answer<W: Write>(writer: &mut W, f: Finder) -> Result<(), Failure> {
     let mut text = [0u8; 384];
-    let end = answering::put_answer(&mut text, 0, routes::find(f.bus, f.question, f.depth));
+    let found = routes::find(f.bus, f.question, f.depth).map_err(|refusal| refusal.number());
+    let end = answering::put_answer(&mut text, 0, found);
     writer.write_all(&text[..end]).map_err(Failure::Output)
 }
 

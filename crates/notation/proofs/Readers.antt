@@ -5,13 +5,11 @@ use Prim.Native.Nat.{ℕ, zero, suc, ◌^◌, ◌<◌}
 use native.Mathlib.Omega.{arith}
 use borrow.Author.Tests.{lt-ltb}
 use lib.Dec.{eqb}
-use Rattle.charts.specs.Numbers.{number_of}
-use Rattle.charts.specs.declared.Refusal.{Refusal}
-use Rattle.charts.specs.declared.Refusal.TheVariants as R
+use Rattle.charts.specs.Numbers as N
 use Rattle.charts.specs.Valid.{is_size}
 use Rattle.faults.specs.declared.Fault.TheVariants as F
 use Rattle.std.proofs.Common.{Ok, Err}
-use Rattle.notation.specs.Reading.{line_shown, nodes_stage, refusal_at}
+use Rattle.notation.specs.Reading.{line_shown, nodes_stage}
 
 -- the number shown for a line is its number, as far as 64 bits hold it
 pub shown_small : (i : ℕ) → i < 2 ^ 64 → line_shown i ≡ i
@@ -23,26 +21,8 @@ pub sized_nodes : (n m : ℕ) → nodes_stage n m ≡ Ok (tt {0}) → (eqb n 0 �
 unfolding nodes_stage
 sized_nodes n m e = go (eqb n 0) (is_size m) refl refl e
   where
-    go : (b s : Bool) → eqb n 0 ≡ b → is_size m ≡ s → cond (not b) (Err F.NodesAgain) (cond (not s) (Err (F.Refused R.WrongSize)) (Ok (tt {0}))) ≡ Ok (tt {0})
+    go : (b s : Bool) → eqb n 0 ≡ b → is_size m ≡ s → cond (not b) (Err F.NodesAgain) (cond (not s) (Err (F.Refused N.wrong_size)) (Ok (tt {0}))) ≡ Ok (tt {0})
         → (eqb n 0 ≡ true) × (is_size m ≡ true)
     go true true p q h = (p, q)
     go true false p q h = absurd (let z : ◌≡◌ {A = ℕ} 0 1 = cc in omega arith)
     go false s p q h = absurd (let z : ◌≡◌ {A = ℕ} 0 1 = cc in omega arith)
-
--- a refusal is told by its number
-pub refusal_back : (k : Refusal) → refusal_at (number_of k) ≡ k
-refusal_back R.WrongSize = refl
-refusal_back R.WrongKind = refl
-refusal_back R.StrayField = refl
-refusal_back R.WrongNode = refl
-refusal_back R.WrongAddress = refl
-refusal_back R.WrongAnswer = refl
-refusal_back R.NotOpen = refl
-refusal_back R.WrongLength = refl
-refusal_back R.WrongCheck = refl
-refusal_back R.WrongOrder = refl
-refusal_back R.WrongCount = refl
-refusal_back R.NotValid = refl
-refusal_back R.WrongLabel = refl
-refusal_back R.TooDeep = refl
-refusal_back R.ToItself = refl

@@ -1,5 +1,6 @@
 -- What a whole text means: n and its actions, or its first fault with the line that has it.
 use Rattle.std.specs.Prelude.{◌≡◌, cond, ◌&&◌, List, [], ◌∷◌, ◌++◌, ℕ, suc, eqb, length, drop, get_or, replicate, Result, Ok, Err}
+use Rattle.charts.specs.Numbers.{number_of}
 use Rattle.charts.specs.Records.{read}
 use Rattle.charts.specs.declared.Action.{Action}
 use Rattle.charts.specs.declared.Move.{Move}
@@ -43,7 +44,7 @@ pub data Said : Type 0 where
 
 -- "`pass * 6` repeats a line"; "the paper's number 1 to 6 for what the writer would refuse"
 abbrev pub read_on : ℕ → List Action → Action → ℕ → Result Move Refusal → Said
-read_on n l a k (Err j) = off (Refused j)
+read_on n l a k (Err j) = off (Refused (number_of j))
 read_on n l a k (Ok m) = on n (l ++ replicate k a)
 
 -- "`nodes 3` first"

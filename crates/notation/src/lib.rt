@@ -73,7 +73,7 @@ pub fn nodes_stage(n: u8, m: u8) -> Result<(), Fault>
         return Err(Fault::NodesAgain);
     }
     if !record::is_size(m) {
-        return Err(Fault::Refused(Refusal::WrongSize));
+        return Err(Fault::Refused(Refusal::WrongSize.number()));
     }
     Ok(())
 }

@@ -3,4 +3,4 @@ use Rattle.faults.proofs.Lengths.{line_short}
 use Rattle.faults.proofs.words.put_fault.Goals as goal
 
 pub returns-clause-short : goal.returns-clause-short
-returns-clause-short c = line_short c.args.number c.args.fault c.args.cause c.args.w.now (omega arith) c.put_cause.ensures.short
+returns-clause-short c = line_short c.args.number c.args.fault c.args.cause c.args.w.now (omega arith) c.put_fault_words.ensures.short c.put_cause.ensures.short
