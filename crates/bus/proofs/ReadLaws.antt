@@ -16,6 +16,7 @@ use Rattle.charts.specs.declared.Refusal.{Refusal}
 use Rattle.charts.specs.Records.{Decoded}
 use Rattle.charts.specs.declared.Bus.{Bus}
 use Rattle.charts.specs.Records.{read}
+use Rattle.charts.specs.Reception.{Reception}
 use Rattle.charts.specs.Step.{look}
 use Rattle.charts.specs.State.{every}
 use Rattle.charts.specs.Valid.{is_size, cell_fits, phase_fits, valid}
@@ -86,6 +87,6 @@ all_every f (x ∷ l) d (suc n) h = ap (λ b. f x && b) (all_every f l d n (omeg
 
 -- only for an accepted record there is a plan
 pub plan_fits : (b : Bus) (d : Decoded) (i : ℕ) (c : Cell) (p : Plan) → Ready b.n b.phase (mark b.pending) d →
-    (q : Bool) → Ok p ≡ planned b.n b.phase b.concatenated q i c (mark b.won) (mark b.pending) (mark b.holder) d → b.n ≤ 63
-plan_fits b (Err k) i c p r q y = let z : ◌≡◌ {A = ℕ} 0 1 = cc in omega arith
-plan_fits b (Ok m) i c p r q y = r.size
+    (h : Reception) (q : Bool) → Ok p ≡ planned h b.n b.phase b.concatenated q i c (mark b.won) (mark b.pending) (mark b.holder) d → b.n ≤ 63
+plan_fits b (Err k) i c p r h q y = let z : ◌≡◌ {A = ℕ} 0 1 = cc in omega arith
+plan_fits b (Ok m) i c p r h q y = r.size

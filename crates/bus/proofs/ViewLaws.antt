@@ -16,12 +16,14 @@ use Rattle.charts.specs.declared.Marking.TheVariants as M
 use Rattle.std.specs.Prelude.{Ok, Err}
 use Rattle.charts.specs.Numbers.{number_of}
 use Rattle.charts.specs.Records.{Decoded}
+use Rattle.charts.specs.Reception.{Reception}
 use Rattle.charts.specs.Actions.{Outcome, closed, does}
 use Rattle.charts.specs.State.{State, upd, moved, concatenated_after, remarked, wons, pendings, holders, fresh, fresh_cell}
-use Rattle.charts.specs.Step.{Result, play, refuses, step_with, carry_out, about, some_asked, comes_to}
+use Rattle.charts.specs.Step.{Result, refuses, carry_out, about}
 use Rattle.charts.specs.View.{view, cell_of, mark, fresh_node, Sized}
 use Rattle.deciding.specs.Marks.{unmarked, clears_misled, clears_won}
 use Rattle.deciding.specs.Plans.{Planned, settled, aimed, planned}
+use Rattle.bus.specs.Advance.{comes_to_by, step_by}
 use Rattle.charts.proofs.Views.{get_d_set}
 
 pub view_n : (b : Bus) → (view b).n ≡ b.n
@@ -112,14 +114,13 @@ plays s i (does r p c x) = refl
 abbrev aim : State → Decoded → ℕ
 aim s d = aimed s.n s.phase (pendings s.cell) d
 
-steps : (s : State) (d : Decoded) → applied s (aim s d) (planned s.n s.phase s.concatenated (some_asked s) (aim s d) (s.cell (aim s d)) (wons s.cell) (pendings s.cell) (holders s.cell) d) ≡ step_with s d
-unfolding play
-steps s (Err k) = refl
-steps s (Ok m) = plays s (about s m) (comes_to s m)
+steps : (h : Reception) (q : Bool) (s : State) (d : Decoded) → applied s (aim s d) (planned h s.n s.phase s.concatenated q (aim s d) (s.cell (aim s d)) (wons s.cell) (pendings s.cell) (holders s.cell) d) ≡ step_by h q s d
+steps h q s (Err k) = refl
+steps h q s (Ok m) = plays s (about s m) (comes_to_by h q s m)
 
-pub carried : (b : Bus) (d : Decoded) (i : ℕ) (c : Cell) (p : Planned) → i ≡ aimed b.n b.phase (mark b.pending) d →
+pub carried : (h : Reception) (q : Bool) (b : Bus) (d : Decoded) (i : ℕ) (c : Cell) (p : Planned) → i ≡ aimed b.n b.phase (mark b.pending) d →
     c ≡ cell_of (get_or b.nodes i fresh_node) (mark b.won i) (mark b.pending i) (mark b.holder i) (mark b.misled i) →
-    p ≡ planned b.n b.phase b.concatenated (some_asked (view b)) i c (mark b.won) (mark b.pending) (mark b.holder) d →
-    applied (view b) i p ≡ step_with (view b) d
+    p ≡ planned h b.n b.phase b.concatenated q i c (mark b.won) (mark b.pending) (mark b.holder) d →
+    applied (view b) i p ≡ step_by h q (view b) d
 unfolding view
-carried b d i c p ei ec ep = rw (ep, ec, ei) (steps (view b) d)
+carried h q b d i c p ei ec ep = rw (ep, ec, ei) (steps h q (view b) d)

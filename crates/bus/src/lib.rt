@@ -3,10 +3,10 @@
 
 ghost use Rattle.std.specs.Prelude.{◌≡◌, ◌<◌};
 ghost use Rattle.charts.specs.State.{fresh};
-ghost use Rattle.charts.specs.Step.{begin, look, step, step_with, some_asked};
+ghost use Rattle.charts.specs.Step.{begin, look, step, step_with};
 ghost use Rattle.charts.specs.View.{view, mark, seen, seen_begun};
-ghost use Rattle.link.specs.Reading.{cells};
-ghost use Rattle.bus.specs.Advance.{glance, advance_of};
+ghost use Rattle.link.specs.Reading.{heard_by};
+ghost use Rattle.bus.specs.Advance.{glance, advance_of, step_by, advance_by};
 ghost use Rattle.deciding.specs.Plans.{Ready, aimed};
 
 use charts::{Action, Begun, Bus, Head, Mode, Move, Node, Packet, Phase, Played, Refusal, Report};
@@ -70,7 +70,7 @@ fn carry_out(
     d: Result<Move, Refusal>,
 ) -> Result<Report, Refusal>
     requires { Ready bus.old.n bus.old.phase (mark bus.old.pending) d }
-    ensures { table.now ≡ cells → asked ≡ some_asked (view bus.old) → seen (record { report = result; bus = bus.new }) ≡ step_with (view bus.old) d }
+    ensures { seen (record { report = result; bus = bus.new }) ≡ step_by (heard_by table.now) asked (view bus.old) d }
 {
     let i = aiming::aim(bus.n, bus.phase, &bus.pending, d);
     let at = i as usize;
@@ -90,7 +90,7 @@ fn carry_out(
         pending: &bus.pending,
         holder: &bus.holder,
     };
-    let plan = deciding::plan(table, scene, i, cell, d)?;
+    let plan = deciding::plan(table, scene, i, cell, d)??;
     bus.phase = plan.phase;
     bus.nodes[at] = cells::node_of(plan.cell);
     bus.won[at] = plan.cell.won;
@@ -153,10 +153,10 @@ pub fn advance(b: Bus, a: Action) -> Played
     hand_on(b, glance(b.n, b.phase, a))
 }
 
-// For a player: the same on the bus where it lies, which a refusal leaves as it is. The player takes the chart's table once (`link::table::table`) and lends it,
-// and keeps for itself whether some node is Asked (`asking`).
+// For a player: the same on the bus where it lies, which a refusal leaves as it is, by whatever table it lends and whatever it says of Asked nodes. It takes the
+// chart's table once (`link::table::table`), and keeps for itself whether some node is Asked (`asking`): then it is `advance`.
 pub fn play(bus: &mut Bus, table: &[u16; 350], asked: bool, a: Action) -> Result<Report, Refusal>
-    ensures { table.now ≡ cells → asked ≡ some_asked (view bus.old) → seen (record { report = result; bus = bus.new }) ≡ advance_of (view bus.old) a }
+    ensures { seen (record { report = result; bus = bus.new }) ≡ advance_by (heard_by table.now) asked (view bus.old) a }
 {
     let d = glance(bus.n, bus.phase, a);
     carry_out(bus, table, asked, d)

@@ -8,7 +8,7 @@ use Rattle.charts.specs.declared.Cell.{Cell}
 use Rattle.charts.specs.declared.Marking.{Marking}
 use Rattle.charts.specs.declared.Move.{Move}
 use Rattle.charts.specs.Records.{Decoded}
-use Rattle.charts.specs.Reception.{Reception, hears}
+use Rattle.charts.specs.Reception.{Reception}
 use Rattle.charts.specs.Actions.{Outcome, closed, does, when, may_be_open, next_of, target, outcome}
 use Rattle.deciding.specs.declared.plans.Plan.{Plan}
 
@@ -34,18 +34,25 @@ abbrev pub opened : Reception → ℕ → Phase → Bool → Bool → ℕ → Ce
 opened h n p b q i c ws ps hs m = settled (when (may_be_open q m) (outcome h n p b i c ws ps hs m))
 
 -- the plan of a record
-abbrev pub planned : ℕ → Phase → Bool → Bool → ℕ → Cell → (ℕ → Bool) → (ℕ → Bool) → (ℕ → Bool) → Decoded → Planned
-planned n p b q i c ws ps hs (Err k) = Err k
-planned n p b q i c ws ps hs (Ok m) = opened hears n p b q i c ws ps hs m
+abbrev pub planned : Reception → ℕ → Phase → Bool → Bool → ℕ → Cell → (ℕ → Bool) → (ℕ → Bool) → (ℕ → Bool) → Decoded → Planned
+planned h n p b q i c ws ps hs (Err k) = Err k
+planned h n p b q i c ws ps hs (Ok m) = opened h n p b q i c ws ps hs m
 
--- what 12 says that makes a plan for node i safe: at most 63 nodes, and i and the node that gets the next signal or Gap below 63. The plan that asks for it, of any record
+-- what 12 says that makes a plan for node i safe: at most 63 nodes, and i and the node that gets the next signal or Gap below 63. The plan that asks for it, of any action
 -- about any node
 abbrev pub is_ready : ℕ → Phase → ℕ → Bool
 is_ready n p i = ltb n 64 && (ltb (next_of p) 63 && ltb i 63)
 
-abbrev pub tried : Reception → ℕ → Phase → Bool → Bool → ℕ → Cell → (ℕ → Bool) → (ℕ → Bool) → (ℕ → Bool) → Decoded → Planned
+abbrev pub attempted : Reception → ℕ → Phase → Bool → Bool → ℕ → Cell → (ℕ → Bool) → (ℕ → Bool) → (ℕ → Bool) → Move → Planned
+attempted h n p b q i c ws ps hs m = cond (is_ready n p i) (opened h n p b q i c ws ps hs m) (Err R.NotValid)
+
+-- the same of any record, by whatever it was refused: that stays as it is
+abbrev pub Tried : Type 0 → Type 0
+Tried E = Result Planned E
+
+abbrev pub tried : {E : Type 0} → Reception → ℕ → Phase → Bool → Bool → ℕ → Cell → (ℕ → Bool) → (ℕ → Bool) → (ℕ → Bool) → Result Move E → Tried E
 tried h n p b q i c ws ps hs (Err k) = Err k
-tried h n p b q i c ws ps hs (Ok m) = cond (is_ready n p i) (opened h n p b q i c ws ps hs m) (Err R.NotValid)
+tried h n p b q i c ws ps hs (Ok m) = Ok (attempted h n p b q i c ws ps hs m)
 
 -- what indexing by an accepted record needs
 pub record Fits (n : ℕ) (p : Phase) (i : ℕ) : Type 0 where

@@ -1,9 +1,9 @@
-// The plan of any record that was looked at.
+// The plan of any action.
 ghost use Rattle.std.specs.Prelude.{◌≡◌};
 ghost use Rattle.charts.specs.Actions.{outcome, waits_for_asked};
 ghost use Rattle.charts.specs.View.{mark};
 ghost use Rattle.link.specs.Reading.{heard_by};
-ghost use Rattle.deciding.specs.Plans.{settled, is_ready, tried};
+ghost use Rattle.deciding.specs.Plans.{settled, is_ready, attempted};
 
 use crate::plans::Plan;
 use crate::{Scene, actions, phases};
@@ -49,17 +49,16 @@ fn is_ready(n: u8, phase: Phase, i: u8) -> bool
     n < 64 && phases::next_of(phase) < 63 && i < 63
 }
 
-// The plan of a record about node i, whose cell is c. An accepted one is carried out on what passes 12.
+// The plan of an action about any node i, whose cell is c, on what passes 12.
 pub(crate) fn decide(
     table: &[u16; 350],
     scene: Scene,
     i: u8,
     c: Cell,
-    d: Result<Move, Refusal>,
+    m: Move,
 ) -> Result<Plan, Refusal>
-    ensures { result ≡ tried (heard_by table.now) scene.entry.n scene.entry.phase scene.entry.concatenated scene.entry.asked i c (mark scene.entry.won.now) (mark scene.entry.pending.now) (mark scene.entry.holder.now) d }
+    ensures { result ≡ attempted (heard_by table.now) scene.entry.n scene.entry.phase scene.entry.concatenated scene.entry.asked i c (mark scene.entry.won.now) (mark scene.entry.pending.now) (mark scene.entry.holder.now) m }
 {
-    let m = d?;
     if !is_ready(scene.n, scene.phase, i) {
         return Err(Refusal::NotValid);
     }

@@ -30,15 +30,18 @@ pub struct Scene<'a> {
 }
 
 // What `bus::advance` makes of node i, whose cell is c, by a table of the reception chart. (bus/proofs/InPlace.antt: carrying the plan out on the arrays, with the
-// chart's own table, is `advance`.) A player takes the table once, and lends it with each action.
-pub fn plan(
+// chart's own table, is `advance`.) A player takes the table once, and lends it with each action. What refuses a record, a `Refusal` or a number, is handed on.
+pub fn plan<E>(
     table: &[u16; 350],
     scene: Scene,
     i: u8,
     c: Cell,
-    d: Result<Move, Refusal>,
-) -> Result<Plan, Refusal>
+    d: Result<Move, E>,
+) -> Result<Result<Plan, Refusal>, E>
     ensures { result ≡ tried (heard_by table.now) scene.entry.n scene.entry.phase scene.entry.concatenated scene.entry.asked i c (mark scene.entry.won.now) (mark scene.entry.pending.now) (mark scene.entry.holder.now) d }
 {
-    decide::decide(table, scene, i, c, d)
+    match d {
+        Ok(m) => Ok(decide::decide(table, scene, i, c, m)),
+        Err(refused) => Err(refused),
+    }
 }

@@ -68,11 +68,14 @@ pub fn keep(phase: Phase, c: Cell, u: User, a: Action, x: Kept) -> Kept
     }
 }
 
-// Every spell runs down by so much.
+// Every spell runs down by so much. (Where nothing is waited, as in each phase but Idle, no spell is looked at.)
 pub fn run_down(kept: &mut [Kept; 63], by: u8)
     ensures kept_len { length kept.new ≡ 63 }
     ensures kept_after { kept_in kept.new ≡ lowered_by by (kept_in kept.old) }
 {
+    if by == 0 {
+        return;
+    }
     for x in kept.iter_mut() {
         x.left = x.left.saturating_sub(by);
     }

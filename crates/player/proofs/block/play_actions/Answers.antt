@@ -10,6 +10,7 @@ use Rattle.charts.specs.Layout.{action_at}
 use Rattle.charts.proofs.Steps.{refuses_it}
 use Rattle.bus.specs.Asking.{asked_after}
 use Rattle.bus.proofs.Counts.{counted_asked, asked_on}
+use Rattle.bus.proofs.InPlace.{advance_by_the_chart}
 use Rattle.record.proofs.Walk.{tail_part}
 use Rattle.transcript.specs.Lines.{line_of, refused_line}
 use Rattle.transcript.proofs.Rooms.{puts_line}
@@ -25,7 +26,7 @@ pub returns-in-Err : goal.returns-in-Err
 returns-in-Err c =
     let i = c.args.first + c.loop-k.k in
     let played : Played = record { report = Err c.in-Err.refusal; bus = c.play.new.bus } in
-    let is = c.in-Err.ensures c.table-table.ensures (counted_asked c.loop-k.state c.loop-k.asked c.loop-k.invariant.2) in
+    let is = c.in-Err.ensures ∙ advance_by_the_chart _ _ _ c.table-table.ensures (counted_asked c.loop-k.state c.loop-k.asked c.loop-k.invariant.2) _ in
     let found : c.read_action-a.result ≡ action_at (drop (14 + 16 * c.loop-k.k) c.args.piece.now) = rw tail_part at c.read_action-a.ensures in
     let here = rw (left_more c.args.count c.loop-k.k c.args.piece.now c.loop-k-test.true, ← found, ← is) at c.loop-k.invariant.1 in
     let later = part_of (left c.args.count (c.loop-k.k + 1) c.args.piece.now) (view c.play.new.bus) (suc i) in
@@ -38,7 +39,7 @@ pub loop-k-preserved : goal.loop-k-preserved
 loop-k-preserved c =
     let i = c.args.first + c.loop-k.k in
     let played : Played = record { report = Ok c.in-Ok.report; bus = c.play.new.bus } in
-    let is = c.in-Ok.ensures c.table-table.ensures (counted_asked c.loop-k.state c.loop-k.asked c.loop-k.invariant.2) in
+    let is = c.in-Ok.ensures ∙ advance_by_the_chart _ _ _ c.table-table.ensures (counted_asked c.loop-k.state c.loop-k.asked c.loop-k.invariant.2) _ in
     let found : c.read_action-a.result ≡ action_at (drop (14 + 16 * c.loop-k.k) c.args.piece.now) = rw tail_part at c.read_action-a.ensures in
     let here = rw (left_more c.args.count c.loop-k.k c.args.piece.now c.loop-k-test.true, ← found, ← is) at c.loop-k.invariant.1 in
     let later = part_of (left c.args.count (c.loop-k.k + 1) c.args.piece.now) (view c.play.new.bus) (suc i) in

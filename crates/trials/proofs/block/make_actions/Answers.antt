@@ -7,6 +7,7 @@ use Rattle.charts.specs.Trials.{chosen}
 use Rattle.charts.specs.View.{users_of}
 use Rattle.turns.specs.Turns.{Allowed}
 use Rattle.turns.proofs.Turning.{keeps_n, valid_now, unasked_now, chosen_now, never_refused, stands_on}
+use Rattle.bus.proofs.InPlace.{advance_by_the_chart}
 use Rattle.trials.proofs.Parts.{next_size, next_holds}
 use Rattle.trials.proofs.block.make_actions.Goals as goal
 use Rattle.trials.proofs.block.make_actions.Goals.{in-Ok, in_default}
@@ -24,7 +25,7 @@ loop-k-preserved c =
     let allowed : Allowed us b.n = subst (Allowed us) (sym c.loop-k.invariant.nodes) c.requires.allowed in
     let who = c.actor-who.result in
     let p : Played = record { report = c.play.result; bus = c.play.new.bus } in
-    let is_step = c.play.ensures c.table-table.ensures (unasked_now us done b kept tally allowed stands) in
+    let is_step = c.play.ensures ∙ advance_by_the_chart _ _ _ c.table-table.ensures (unasked_now us done b kept tally allowed stands) _ in
     elim c.match-play.branch [
       | in-Ok w ↦
           let r = w.in-Ok.report in
