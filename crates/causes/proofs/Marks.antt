@@ -30,6 +30,19 @@ module _ (p : ℕ → Bool) where
   unfolding first_in
   is_first n r high before here = first_at n 0 r (omega arith) (omega arith) before (λ h. here (omega arith))
 
+  -- and where there is such a place, it is one
+  found_from : (k i : ℕ) → first_from p k i < i + k → p (first_from p k i) ≡ true
+  found_from zero i h = absurd (omega arith)
+  found_from (suc k) i h = go (p i) refl h (found_from k (suc i))
+    where
+      go : (b : Bool) → p i ≡ b → cond b i (first_from p k (suc i)) < i + suc k → (first_from p k (suc i) < suc i + k → p (first_from p k (suc i)) ≡ true) → p (cond b i (first_from p k (suc i))) ≡ true
+      go true e g later = e
+      go false e g later = later (omega arith)
+
+  pub found : (n : ℕ) → first_in p n < n → p (first_in p n) ≡ true
+  unfolding first_in
+  found n h = found_from n 0 (omega arith)
+
   pub is_last : (n r : ℕ) → r ≤ n → ((j : ℕ) → r ≤ j → j < n → p j ≡ false) → (0 < r → p (r - 1) ≡ true) → r ≡ after_last p n
   is_last zero r high after here = omega arith
   is_last (suc n) r high after here = go (p n) refl (same_or_after r (suc n) high) (λ e. is_last n r e (λ j a b. after j a (omega arith)) here)

@@ -1,3 +1,4 @@
 pub mod Little
+pub mod Clean
 pub mod Round
 pub mod Walk

@@ -36,6 +36,10 @@ value_bound (b ∷ l) h =
     let g = value_bound l (λ i. h (suc i)) in
     omega arith
 
+pub length_little : (k x : ℕ) → length (little k x) ≡ k
+length_little zero x = refl
+length_little (suc k) x = ap suc (length_little k (x / 256))
+
 pub bytes_little : (k x : ℕ) → Bytes (little k x)
 bytes_little zero x i = omega arith
 bytes_little (suc k) x zero = omega arith
