@@ -24,7 +24,7 @@ use Rattle.notation.specs.declared.Line.{Line}
 use Rattle.notation.specs.declared.Line.TheVariants as L
 use Rattle.std.proofs.Common.{Option, None, Some, is_some, Result, Ok, Err}
 use Rattle.notation.specs.Grammar.{line_of}
-use Rattle.notation.specs.Reading.{counted, nodes_stage, refusal_at}
+use Rattle.notation.specs.Reading.{counted, nodes_stage}
 use Rattle.notation.specs.Meaning.{lines_of, unmarked}
 use Rattle.notation.proofs.Readers.{sized_nodes}
 use Rattle.notation.proofs.Questions.{as_in_run}
@@ -125,7 +125,7 @@ module _ (ns : List ℕ) (l : List Action) (qs : List (Question × ℕ)) (r : Re
     action_goes a k = go (eqb r.state.n 0) refl
       where
         plays : (ns ≡ r.state.n ∷ []) × PlayedRun l r.state → (b : Bool) → is_accepted (repeated k r.state a) ≡ b
-            → Then (Ok (L.Acts a k)) (cond b (on_bus r (repeated k r.state a).state) (stopped r (F.Refused (refusal_at (repeated k r.state a).number))))
+            → Then (Ok (L.Acts a k)) (cond b (on_bus r (repeated k r.state a).state) (stopped r (F.Refused (repeated k r.state a).number)))
         plays p true q e =
             let more = repeats k l r.state a p.1 q in
             let one = append-nil ns ∙ p.0 ∙ ap (λ n. n ∷ []) (sym (repeats_n k r.state a)) in
@@ -146,7 +146,7 @@ module _ (ns : List ℕ) (l : List Action) (qs : List (Question × ℕ)) (r : Re
     question_goes q d = go (eqb r.state.n 0) (eqb (route_number r.state q d) N.accepted) refl
       where
         go : (b c : Bool) → eqb (route_number r.state q d) N.accepted ≡ c
-            → Then (Ok (L.Finds q d)) (cond b (stopped r F.NodesMissing) (cond c (asking r q d) (stopped r (F.Refused (refusal_at (route_number r.state q d))))))
+            → Then (Ok (L.Finds q d)) (cond b (stopped r F.NodesMissing) (cond c (asking r q d) (stopped r (F.Refused (route_number r.state q d)))))
         go true c h e = halts e
         go false false h e = halts e
         go false true h e =

@@ -18,7 +18,7 @@ use Rattle.notation.specs.declared.Text.TheVariants as T
 use Rattle.notation.specs.declared.Line.{Line}
 use Rattle.notation.specs.declared.Line.TheVariants as L
 use Rattle.notation.specs.Grammar.{line_of}
-use Rattle.notation.specs.Reading.{counted, nodes_stage, refusal_at}
+use Rattle.notation.specs.Reading.{counted, nodes_stage}
 use Rattle.finder.specs.declared.Finder.{Finder}
 
 -- the fault that has stopped it and the line last read; the state of the run so far (n is 0 before the `nodes` line); whether the line `find` was read, and what it asks
@@ -77,7 +77,7 @@ abbrev pub repeats : Result Unit Refusal → State → Step.Result
 repeats r s = record { number = err_number r; report = Silent; state = s }
 
 abbrev pub played_by : Reader → Step.Result → Reader
-played_by r x = cond (is_accepted x) (on_bus r x.state) (stopped r (Refused (refusal_at x.number)))
+played_by r x = cond (is_accepted x) (on_bus r x.state) (stopped r (Refused x.number))
 
 unfoldable pub action_taken : Reader → Action → ℕ → Reader
 action_taken r a k = cond (eqb r.state.n 0) (stopped r NodesMissing) (played_by r (repeated k r.state a))
@@ -87,7 +87,7 @@ unfoldable pub question_taken : Reader → Question → ℕ → Reader
 question_taken r q d =
     cond (eqb r.state.n 0) (stopped r NodesMissing)
     (cond (eqb (route_number r.state q d) N.accepted) (asking r q d)
-    (stopped r (Refused (refusal_at (route_number r.state q d)))))
+    (stopped r (Refused (route_number r.state q d))))
 
 -- a line of each sort. (No line of a question says what settings say.)
 unfoldable pub statement_taken : Reader → Line → Reader

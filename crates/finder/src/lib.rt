@@ -69,7 +69,7 @@ fn take_action(f: &mut Finder, a: Action, times: u32) -> Result<(), Fault>
         return Err(Fault::NodesMissing);
     }
     let mut bus = f.bus;
-    repeat(&mut bus, a, times).map_err(Fault::Refused)?;
+    repeat(&mut bus, a, times).map_err(|refusal| Fault::Refused(refusal.number()))?;
     f.bus = bus;
     Ok(())
 }
@@ -82,7 +82,7 @@ fn take_question(f: &mut Finder, question: Question, depth: u8) -> Result<(), Fa
         return Err(Fault::NodesMissing);
     }
     if let Some(refusal) = routes::number(f.bus, question, depth) {
-        return Err(Fault::Refused(refusal));
+        return Err(Fault::Refused(refusal.number()));
     }
     f.asked = true;
     f.question = question;

@@ -4,7 +4,6 @@ use mathlib.Core.Bool.{Bool, true, false}
 use Prim.Native.Nat.{ℕ}
 use Rattle.charts.specs.State.{upd}
 use Rattle.charts.specs.declared.User.{User}
-use Rattle.charts.specs.declared.Refusal.TheVariants as R
 use Rattle.faults.specs.declared.Fault.TheVariants as F
 use Rattle.transcript.specs.Text.{ascii}
 use Rattle.words.specs.Words.{name_of, digit_of, digits_of, token_of, tokens_of}
@@ -26,11 +25,11 @@ examples :
     × (settings_of (ascii "# 1\nactions 1\nnodes 2\n") ≡ wrong 2 F.NodesMissing)
     × (settings_of (ascii "") ≡ wrong 0 F.NodesMissing)
     × (settings_of (ascii "nodes 2\n\nnodes 2\n") ≡ wrong 3 F.NodesAgain)
-    × (settings_of (ascii "nodes 64\n") ≡ wrong 1 (F.Refused R.WrongSize))
-    × (settings_of (ascii "nodes 2\nuser 2 to 5\n") ≡ wrong 2 (F.Refused R.WrongNode))
-    × (settings_of (ascii "nodes 2\nuser 1 to 2\n") ≡ wrong 2 (F.Refused R.WrongAddress))
-    × (settings_of (ascii "nodes 2\nuser 1 to 1\n") ≡ wrong 2 (F.Refused R.ToItself))
-    × (settings_of (ascii "nodes 2\nuser 0 hold\n") ≡ wrong 2 (F.Refused R.ToItself))
+    × (settings_of (ascii "nodes 64\n") ≡ wrong 1 (F.Refused 1))
+    × (settings_of (ascii "nodes 2\nuser 2 to 5\n") ≡ wrong 2 (F.Refused 4))
+    × (settings_of (ascii "nodes 2\nuser 1 to 2\n") ≡ wrong 2 (F.Refused 5))
+    × (settings_of (ascii "nodes 2\nuser 1 to 1\n") ≡ wrong 2 (F.Refused 15))
+    × (settings_of (ascii "nodes 2\nuser 0 hold\n") ≡ wrong 2 (F.Refused 15))
     × (settings_of (ascii "nodes 2\nuser 1 to 0\n# end") ≡ wrong 3 F.NoUser)
     × (settings_of (ascii "nodes 2\nactions 5\nactions 0\nuser 0 to 1\n# end") ≡ wrong 5 F.NoAction)
     × (settings_of (ascii "nodes 2\nuser 0 hold fillers 1\n") ≡ wrong 2 F.ExtraField)

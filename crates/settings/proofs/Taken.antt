@@ -8,7 +8,7 @@ use borrow.Author.Tests.{eqb-true, eqb-false, ltb-true, lt-ltb, ne_eqb}
 use lib.Dec.{eqb, ltb}
 use Rattle.std.proofs.Common.{Result, Ok, Err}
 use Rattle.charts.specs.Numbers as N
-use Rattle.charts.specs.declared.Refusal.TheVariants as R
+use Rattle.charts.specs.Numbers as N
 use Rattle.charts.specs.Records.{is_address, is_own}
 use Rattle.charts.specs.State.{upd}
 use Rattle.charts.specs.Trials.{stray_address, own_address, trial_number}
@@ -56,7 +56,7 @@ unfolding user_stage
 sends n i address e = go (eqb n 0) (ltb i n) (is_address n address) (is_own i address) refl refl refl e
   where
     go : (b c d o : Bool) → eqb n 0 ≡ b → is_address n address ≡ d → is_own i address ≡ o
-        → cond b (Err F.NodesMissing) (cond (not c) (Err (F.Refused R.WrongNode)) (cond (not d) (Err (F.Refused R.WrongAddress)) (cond o (Err (F.Refused R.ToItself)) (Ok (tt {0}))))) ≡ Ok (tt {0})
+        → cond b (Err F.NodesMissing) (cond (not c) (Err (F.Refused N.wrong_node)) (cond (not d) (Err (F.Refused N.wrong_address)) (cond o (Err (F.Refused N.to_itself)) (Ok (tt {0}))))) ≡ Ok (tt {0})
         → Sent n i address
     go false true true false p q r h = record { after = p; known = q; else = r }
     go false true true true p q r h = absurd (let z : ◌≡◌ {A = ℕ} 0 1 = cc in omega arith)

@@ -12,7 +12,7 @@ use Rattle.charts.specs.State.{upd}
 use Rattle.charts.specs.declared.User.{User}
 use Rattle.charts.proofs.Tools.{and-true}
 use Rattle.std.proofs.Common.{None, Some, Result, Ok, Err}
-use Rattle.charts.specs.declared.Refusal.TheVariants as R
+use Rattle.charts.specs.Numbers as N
 use Rattle.faults.specs.declared.Fault.{Fault}
 use Rattle.faults.specs.declared.Fault.TheVariants as F
 use Rattle.notation.specs.declared.Text.TheVariants as T
@@ -54,7 +54,7 @@ unfolding user_stage
 below_n n i address e = go (eqb n 0) (ltb i n) (is_address n address) (is_own i address) refl e
   where
     go : (b c d o : Bool) → ltb i n ≡ c
-        → cond b (Err F.NodesMissing) (cond (not c) (Err (F.Refused R.WrongNode)) (cond (not d) (Err (F.Refused R.WrongAddress)) (cond o (Err (F.Refused R.ToItself)) (Ok (tt {0}))))) ≡ Ok (tt {0}) → i < n
+        → cond b (Err F.NodesMissing) (cond (not c) (Err (F.Refused N.wrong_node)) (cond (not d) (Err (F.Refused N.wrong_address)) (cond o (Err (F.Refused N.to_itself)) (Ok (tt {0}))))) ≡ Ok (tt {0}) → i < n
     go false true d o p h = ltb-true i n p
     go false false d o p h = absurd (let z : ◌≡◌ {A = ℕ} 0 1 = cc in omega arith)
     go true c d o p h = absurd (let z : ◌≡◌ {A = ℕ} 0 1 = cc in omega arith)

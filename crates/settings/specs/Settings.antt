@@ -1,6 +1,6 @@
 -- The settings under way: what a line and the text's end make of them.
 use Rattle.std.specs.Prelude.{cond, not, List, ℕ, eqb, ltb, set, replicate, None, Some, is_some, Result, Ok, Err}
-use Rattle.charts.specs.declared.Refusal.TheVariants.{WrongNode, WrongAddress, ToItself}
+use Rattle.charts.specs.Numbers as N
 use Rattle.charts.specs.Records.{is_address, is_own}
 use Rattle.charts.specs.View.{no_user, users_of}
 use Rattle.charts.specs.declared.User.{User}
@@ -61,9 +61,9 @@ actions_taken s k = goes_on s (for_actions s k) (actions_stage s.n)
 unfoldable pub user_stage : ℕ → ℕ → ℕ → Result Unit Fault
 user_stage n i address =
     cond (eqb n 0) (Err NodesMissing)
-    (cond (not (ltb i n)) (Err (Refused WrongNode))
-    (cond (not (is_address n address)) (Err (Refused WrongAddress))
-    (cond (is_own i address) (Err (Refused ToItself))
+    (cond (not (ltb i n)) (Err (Refused N.wrong_node))
+    (cond (not (is_address n address)) (Err (Refused N.wrong_address))
+    (cond (is_own i address) (Err (Refused N.to_itself))
     (Ok tt))))
 
 -- "Of two lines about the same user […] the later one counts, whole."

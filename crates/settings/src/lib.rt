@@ -69,13 +69,13 @@ fn user_stage(n: u8, i: u8, address: u8) -> Result<(), Fault>
         return Err(Fault::NodesMissing);
     }
     if n <= i {
-        return Err(Fault::Refused(Refusal::WrongNode));
+        return Err(Fault::Refused(Refusal::WrongNode.number()));
     }
     if !record::is_address(n, address) {
-        return Err(Fault::Refused(Refusal::WrongAddress));
+        return Err(Fault::Refused(Refusal::WrongAddress.number()));
     }
     if record::is_own(i, address) {
-        return Err(Fault::Refused(Refusal::ToItself));
+        return Err(Fault::Refused(Refusal::ToItself.number()));
     }
     Ok(())
 }
