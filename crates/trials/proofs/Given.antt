@@ -1,12 +1,12 @@
 -- What a trial gives: refused, and carried through. Assumes nothing.
-use mathlib.Core.Path.{◌≡◌, refl, sym, ap}
+use mathlib.Core.Path.{◌≡◌, refl, ap}
 use mathlib.Core.Bool.{Bool, true, false}
 use mathlib.Core.List.{List}
 use Prim.Native.Nat.{ℕ, ◌*◌}
 use lib.Dec.{eqb}
 use lib.Seq.{sets}
 use borrow.Author.Tests.{eq-eqb}
-use Rattle.std.specs.Prelude.{Ok, Err}
+use Rattle.std.specs.Prelude.{Err}
 use Rattle.charts.specs.declared.Refusal.{Refusal}
 use Rattle.charts.specs.declared.Tally.{Tally}
 use Rattle.charts.specs.declared.User.{User}
@@ -17,7 +17,7 @@ use Rattle.charts.proofs.Tools.{clash}
 use Rattle.charts.proofs.Steps.{refuses_it}
 use Rattle.files.specs.File.{blocks_for, file_of}
 use Rattle.turns.specs.Turns.{tally_after}
-use Rattle.trials.specs.Trying.{Tried, refused, tried, tried_of, given, file_after}
+use Rattle.trials.specs.Trying.{Tried, refused, tried, tried_of, kept_with, file_after}
 
 module _ (us : ℕ → User) (n k : ℕ) where
   -- refused: the tally and the bytes are as they were
@@ -38,21 +38,11 @@ module _ (us : ℕ → User) (n k : ℕ) where
   unfolding file_after
   tried_file file after e x = rw (eq-eqb _ _ e) x
 
-  -- whatever tally was kept before it
-  pub refused_kept : (old : Tally) (r : Refusal) → given (Err r) ≡ tried_of no_tally us n k → refused old (number_of r) ≡ tried_of old us n k
+  -- a refusal says only its number, whatever tally it is put beside
+  pub refused_kept : (old t : Tally) (r : Refusal) → kept_with (Err r) t ≡ tried_of old us n k → refused old (number_of r) ≡ tried_of old us n k
   unfolding tried_of
-  refused_kept old r e = go (eqb (trial_number us n k) N.accepted) refl
+  refused_kept old t r e = go (eqb (trial_number us n k) N.accepted) refl
     where
       go : (b : Bool) → eqb (trial_number us n k) N.accepted ≡ b → refused old (number_of r) ≡ tried_of old us n k
-      go true x = let y : refused no_tally (number_of r) ≡ tried us n k = rw x at e in clash _ (ap (λ z. eqb z.number 0) y) (refuses_it r)
-      go false x = let y : refused no_tally (number_of r) ≡ refused no_tally (trial_number us n k) = rw x at e in rw x (ap (λ z. refused old z.number) y)
-
-  pub tried_kept : (old t : Tally) (size : ℕ) → given (Ok (size, t)) ≡ tried_of no_tally us n k → ◌≡◌ {A = Tried} (record { number = N.accepted; size = size; tally = t }) (tried_of old us n k)
-  unfolding tried_of
-  tried_kept old t size e = go (eqb (trial_number us n k) N.accepted) refl
-    where
-      go : (b : Bool) → eqb (trial_number us n k) N.accepted ≡ b → ◌≡◌ {A = Tried} (record { number = N.accepted; size = size; tally = t }) (tried_of old us n k)
-      go true x = rw x (rw x at e)
-      go false x =
-          let y : ◌≡◌ {A = Tried} (record { number = N.accepted; size = size; tally = t }) (refused no_tally (trial_number us n k)) = rw x at e in
-          clash _ (eq-eqb _ _ (sym (ap (λ z. z.number) y))) x
+      go true x = let y : refused t (number_of r) ≡ tried us n k = rw x at e in clash _ (ap (λ z. eqb z.number 0) y) (refuses_it r)
+      go false x = let y : refused t (number_of r) ≡ refused old (trial_number us n k) = rw x at e in rw x (ap (λ z. refused old z.number) y)

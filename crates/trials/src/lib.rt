@@ -52,6 +52,19 @@ fn check(users: &Users, n: u8, actions: u16) -> Result<(), Refusal>
     Ok(())
 }
 
+fn nothing_counted() -> Tally
+    ensures { result ≡ no_tally }
+{
+    Tally {
+        requests: 0,
+        wins: 0,
+        sent: 0,
+        acks: 0,
+        misses: 0,
+        drops: 0,
+    }
+}
+
 // A trial before its first action.
 fn begin(n: u8) -> Trial
     requires { is_size n ≡ true }
@@ -65,18 +78,10 @@ fn begin(n: u8) -> Trial
         filled: 0,
         made: 0,
     };
-    let tally = Tally {
-        requests: 0,
-        wins: 0,
-        sent: 0,
-        acks: 0,
-        misses: 0,
-        drops: 0,
-    };
     Trial {
         bus: bus::fresh(n).bus,
         kept: [nothing_kept; 63],
-        tally,
+        tally: nothing_counted(),
     }
 }
 
@@ -100,21 +105,7 @@ fn carry_through(n: u8, users: &Users, actions: u32, file: &mut [u8; 1082880]) -
     (512 * (blocks as usize), t.tally)
 }
 
-// A trial: its run file in the lent bytes, and that file's size and the tally by value.
-pub fn attempt(
-    n: u8,
-    users: Users,
-    actions: u16,
-    file: &mut [u8; 1082880],
-) -> Result<(usize, Tally), Refusal>
-    ensures value { given result ≡ tried_of no_tally (users_of users) n actions }
-    ensures file_after { file.new ≡ file_after (users_of users) n actions file.old }
-{
-    check(&users, n, actions)?;
-    Ok(carry_through(n, &users, u32::from(actions), file))
-}
-
-// The same with the caller's own tally: a refusal leaves it as it was, else it is that of the trial.
+// A trial: its run file in the lent bytes, and that file's size. A refusal leaves the caller's tally as it was, else it is that of the trial.
 pub fn trial(
     n: u8,
     users: Users,
@@ -125,7 +116,23 @@ pub fn trial(
     ensures value { kept_with result tally.new ≡ tried_of tally.old (users_of users) n actions }
     ensures file_after { file.new ≡ file_after (users_of users) n actions file.old }
 {
-    let (size, counted) = attempt(n, users, actions, file)?;
+    check(&users, n, actions)?;
+    let (size, counted) = carry_through(n, &users, u32::from(actions), file);
     *tally = counted;
     Ok(size)
+}
+
+// The same for a caller that keeps no tally: the trial's own, by value.
+pub fn attempt(
+    n: u8,
+    users: Users,
+    actions: u16,
+    file: &mut [u8; 1082880],
+) -> Result<(usize, Tally), Refusal>
+    ensures value { given result ≡ tried_of no_tally (users_of users) n actions }
+    ensures file_after { file.new ≡ file_after (users_of users) n actions file.old }
+{
+    let mut tally = nothing_counted();
+    let size = trial(n, users, actions, file, &mut tally)?;
+    Ok((size, tally))
 }

@@ -1,30 +1,13 @@
-use mathlib.Core.Path.{◌≡◌, sym, ap, ◌∙◌}
+use mathlib.Core.Path.{◌≡◌, ap, ◌∙◌}
 use borrow.Author.Rules.{rules}
 use Rattle.std.specs.Prelude.{Err}
-use Rattle.charts.specs.Numbers.{err_number}
 use Rattle.charts.specs.Trials.{no_tally}
 use Rattle.charts.specs.View.{users_of}
-use Rattle.trials.specs.Trying.{given}
-use Rattle.trials.proofs.Allowing.{goes}
-use Rattle.trials.proofs.Given.{refused_is, refused_file, tried_is, tried_file}
+use Rattle.trials.specs.Trying.{kept_with, tried_of, given}
+use Rattle.trials.proofs.Given.{refused_kept}
 use Rattle.trials.proofs.attempt.Goals as goal
 
-pub returns-in_err-check-clause-value : goal.returns-in_err-check-clause-value
-returns-in_err-check-clause-value c =
-    let e : c.from_residual.result ≡ Err c.in_err-check.field-0.0 = search rules in
-    ap given e ∙ refused_is (users_of c.args.users) c.args.n c.args.actions no_tally c.in_err-check.field-0.0 (sym (ap err_number c.in_err-check.was) ∙ c.check.ensures)
-
-pub returns-in_err-check-clause-file_after : goal.returns-in_err-check-clause-file_after
-returns-in_err-check-clause-file_after c = refused_file (users_of c.args.users) c.args.n c.args.actions c.in_err-check.field-0.0 c.args.file.now (sym (ap err_number c.in_err-check.was) ∙ c.check.ensures)
-
-pub carry_through-requires-clause-allowed : goal.carry_through-requires-clause-allowed
-carry_through-requires-clause-allowed c = (goes (users_of c.args.users) c.args.n c.args.actions (sym c.check.ensures ∙ ap err_number c.in_ok-check.was)).allowed
-
-pub carry_through-requires-clause-le_actions : goal.carry_through-requires-clause-le_actions
-carry_through-requires-clause-le_actions c = rw c.from.ensures ((goes (users_of c.args.users) c.args.n c.args.actions (sym c.check.ensures ∙ ap err_number c.in_ok-check.was)).some_actions, search rules)
-
-pub returns-clause-value : goal.returns-clause-value
-returns-clause-value c = tried_is (users_of c.args.users) c.args.n c.args.actions no_tally c.carry_through.result.1 c.carry_through.result.0 (sym c.check.ensures ∙ ap err_number c.in_ok-check.was) (c.carry_through.ensures.size ∙ rw c.from.ensures) (c.carry_through.ensures.tally ∙ rw c.from.ensures)
-
-pub returns-clause-file_after : goal.returns-clause-file_after
-returns-clause-file_after c = tried_file (users_of c.args.users) c.args.n c.args.actions c.args.file.now c.carry_through.new.file (sym c.check.ensures ∙ ap err_number c.in_ok-check.was) (c.carry_through.ensures.file_after ∙ rw c.from.ensures)
+pub returns-in_err-size-clause-value : goal.returns-in_err-size-clause-value
+returns-in_err-size-clause-value c =
+    let e : c.from_residual.result ≡ Err c.in_err-size.field-0.0 = search rules in
+    ap given e ∙ refused_kept (users_of c.args.users) c.args.n c.args.actions no_tally c.trial.new.tally c.in_err-size.field-0.0 (search rules)
