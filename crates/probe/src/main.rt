@@ -175,9 +175,9 @@ fn answer<W: Write>(writer: &mut W, question: &[u8]) -> Result<(), Failure>
         word: word_of(byte(question, 12)),
         node: byte(question, 13),
     };
-    let found = routes::find(bus_of(question), asked, byte(question, 14)).map_err(|refusal| refusal.number());
+    let found = routes::find(bus_of(question), asked, byte(question, 14));
     let mut text = [0u8; 512];
-    let end = answering::put_answer(&mut text, 0, found);
+    let end = answering::put_answer(&mut text, 0, found.map_err(|refusal| refusal.number()));
     let end = transcript::put_word(&mut text, end, b"\n");
     writer.write_all(&text[..end]).map_err(Failure::Output)
 }
