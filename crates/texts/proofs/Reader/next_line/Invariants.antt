@@ -1,5 +1,5 @@
-use Rattle.std.proofs.Common.{◌≤◌, length}
-use Rattle.texts.proofs.Lines.next_line.Given as goal
+use Rattle.std.proofs.Common.{◌≡◌, ◌≤◌, length, true}
+use Rattle.texts.proofs.Reader.next_line.Given as goal
 
 abbrev pub invariant-loop : goal.invariant-loop
-invariant-loop g l = l.len ≤ length l.line
+invariant-loop g l = (l.len ≤ length l.line) × (l.self.lines.whole ≡ true)
