@@ -48,6 +48,6 @@ fn run<R: Read + Drop, W: Write, E: Write>(
 fn main(rt: HostRuntime) {
     let mut err = rt.stderr();
     if let Err(failure) = run(&mut err, rt.stdin(), &mut rt.stdout()) {
-        stream::tell(&err, "find", failure);
+        failure.tell(&err, "find");
     }
 }

@@ -196,6 +196,6 @@ fn run<R: Read, W: Write>(reader: &mut R, writer: &mut W) -> Result<(), Failure>
 
 fn main(rt: HostRuntime) {
     if let Err(failure) = run(&mut rt.stdin(), &mut rt.stdout()) {
-        stream::tell(&rt.stderr(), "probe", failure);
+        failure.tell(&rt.stderr(), "probe");
     }
 }

@@ -12,6 +12,7 @@ ghost use Rattle.stream.specs.Lines.{newline_of, added, rest_of};
 ghost use Rattle.stream.specs.Reading.{count_read};
 ghost use Rattle.stream.specs.declared.Failure.TheVariants.{Input};
 
+use std::fmt::Display;
 use std::io;
 use std::io::{Eprint, Read, Write};
 
@@ -163,13 +164,13 @@ impl<'a, W: Write> Sink<'a, W> {
         ensures written { result ≡ true → Appends (W.contents self.old.writer) (W.contents self.new.writer) (take (count_of self.old.held) self.old.buf.now) }
     {
         if let Err(failure) = outcome {
-            tell(err, program, failure);
+            failure.tell(err, program);
         }
         if self.held.is_none() {
             return false;
         }
         if let Err(error) = self.flush() {
-            tell(err, program, Failure::Output(error));
+            Failure::Output(error).tell(err, program);
             return false;
         }
         true
@@ -234,8 +235,8 @@ pub fn take_line<'a>(bytes: &'a [u8], line: &mut [u8], len: usize) -> Taken<'a>
     }
 }
 
-// The longest text of an error that is told.
-const REASON: usize = 320;
+// The longest text of an error that is told, or of what failed.
+const TOLD: usize = 320;
 
 // The text of an error without its number, which ends it as ` (os error 28)`.
 fn reason_of(text: &[u8]) -> &str {
@@ -244,26 +245,39 @@ fn reason_of(text: &[u8]) -> &str {
         .map_or(text, |(reason, _)| reason)
 }
 
-// Puts the text of an error into a buffer, and answers how much of it is used.
-fn put_error(text: &mut [u8], error: io::Error) -> usize
-    ensures { IsPrefixLen result text.new }
+// Puts a text into a buffer, and answers how much of it is used.
+fn put_text(out: &mut [u8], text: &impl Display) -> usize
+    ensures { IsPrefixLen result out.new }
 {
-    let size = text.len();
-    let mut rest = &mut text[..];
-    let _ = write!(rest, "{error}");
+    let size = out.len();
+    let mut rest = &mut out[..];
+    let _ = write!(rest, "{text}");
     size.saturating_sub(rest.len())
 }
 
 // Says on standard error what failed, and why: a line as `play: standard output: No space left on device`.
-pub fn tell(err: &impl Eprint, program: &str, failure: Failure) {
-    let mut text = [0u8; REASON];
-    let (what, error) = match failure {
-        Failure::Input(error) => ("input", error),
-        Failure::Output(error) => ("output", error),
+pub fn tell(err: &impl Eprint, what: &str, error: Option<io::Error>) {
+    let mut text = [0u8; TOLD];
+    let size = match error {
+        Some(error) => put_text(&mut text, &error),
+        None => 0,
     };
-    let size = put_error(&mut text, error);
     let reason = reason_of(&text[..size]);
-    let _ = eprintln!(err; "{program}: standard {what}: {reason}");
+    let _ = eprintln!(err; "{what}: {reason}");
+}
+
+impl Failure {
+    // Tells it as a program's, in as many writes as any other text that is told.
+    pub fn tell(self, err: &impl Eprint, program: &str) {
+        let (name, error) = match self {
+            Failure::Input(error) => ("input", error),
+            Failure::Output(error) => ("output", error),
+        };
+        let mut text = [0u8; TOLD];
+        let size = put_text(&mut text, &format_args!("{program}: standard {name}"));
+        let what = str::from_utf8(&text[..size]).unwrap_or(program);
+        tell(err, what, Some(error));
+    }
 }
 
 // Writes the whole output of a program, and tells where that fails. Answers whether it was written.
@@ -271,7 +285,7 @@ pub fn print<W: Write>(err: &impl Eprint, program: &str, writer: &mut W, text: &
     ensures { result ≡ true → Appends (W.contents writer.old) (W.contents writer.new) text.now }
 {
     if let Err(error) = writer.write_all(text) {
-        tell(err, program, Failure::Output(error));
+        Failure::Output(error).tell(err, program);
         return false;
     }
     true

@@ -1,62 +1,95 @@
 // Texts on standard input, line by line, and what is wrong in them on standard error: for `compose`, `find` and `trial`.
 #![tactic(auto)]
 
-ghost use Rattle.std.specs.Prelude.{◌≡◌, ◌≤◌, IfOk, IfSome, length};
+ghost use Rattle.std.specs.Prelude.{◌≡◌, ◌≤◌, IfOk, IfSome, is_ok, true, false, length};
 
 use faults::Fault;
 use notation::Text;
+use std::io;
 use std::io::{Read, Write};
 use stream::{Failure, ReadError};
 
-// A text that is read by way of a buffer: where the bytes that are not taken begin and end there (places, since no struct can hold a slice of what it
-// holds too), and whether the input has ended.
-#[derive(Drop)]
-pub struct Lines<'a, R> {
-    reader: R,
-    buf: &'a mut [u8],
-    at: usize,
-    end: usize,
-    ended: bool,
-    ghost within: { (at ≤ end) × (end ≤ length buf.now) },
+// Where a text is read: where the bytes of the buffer that are not taken begin and end (places, since no struct can hold a slice of what it holds too),
+// whether the input has ended, and whether no read failed.
+#[derive(Clone, Copy)]
+pub struct Lines {
+    pub at: usize,
+    pub end: usize,
+    pub ended: bool,
+    pub whole: bool,
 }
 
-impl<'a, R: Read + Drop> Lines<'a, R> {
+// A text that is read by way of a buffer.
+#[derive(Drop)]
+pub struct Reader<'a, R> {
+    pub reader: R,
+    pub buf: &'a mut [u8],
+    pub lines: Lines,
+    ghost within: { (lines.at ≤ lines.end) × (lines.end ≤ length buf.now) },
+}
+
+impl<'a, R: Read + Drop> Reader<'a, R> {
     // Reads the first part of a text, in which a byte order mark counts for nothing.
-    pub fn open(mut reader: R, buf: &'a mut [u8]) -> Result<Lines<'a, R>, ReadError> {
+    pub fn open(mut reader: R, buf: &'a mut [u8]) -> Result<Reader<'a, R>, ReadError>
+        ensures { IfOk result (λ text. text.lines.whole ≡ true) }
+    {
         let end = stream::fill(&mut reader, buf)?;
-        Ok(Lines {
-            at: notation::mark_size(&buf[..end]),
-            end,
-            ended: end < buf.len(),
+        Ok(Reader {
+            lines: Lines {
+                at: notation::mark_size(&buf[..end]),
+                end,
+                ended: end < buf.len(),
+                whole: true,
+            },
             reader,
             buf,
         })
     }
 
     // The next part of the text.
-    fn read_on(&mut self) -> Result<(), ReadError> {
-        let end = stream::fill(&mut self.reader, self.buf)?;
-        self.at = 0;
-        self.end = end;
-        self.ended = end < self.buf.len();
+    fn read_on(&mut self) -> Result<(), ReadError>
+        ensures { self.new.lines.whole ≡ is_ok result }
+    {
+        let filled = stream::fill(&mut self.reader, self.buf);
+        let end = match &filled {
+            Ok(end) => *end,
+            Err(failed) => failed.count,
+        };
+        self.lines = Lines {
+            at: 0,
+            end,
+            ended: end < self.buf.len(),
+            whole: filled.is_ok(),
+        };
+        filled?;
         Ok(())
     }
 
     // The next line, without its newline, stands at the start of `line`; the last one may lack its newline. Answers its length, or None after the last one.
-    // Of a longer line than `line` has room for its start stands there. A proved loop has to end, so it has as many turns as no text uses up.
+    // Of a longer line than `line` has room for its start stands there. After a failed read there is no next line, and an error is the answer.
+    // A proved loop has to end, so it has as many turns as no text uses up.
     pub fn next_line(&mut self, line: &mut [u8]) -> Result<Option<usize>, ReadError>
-        ensures { IfOk result (λ len. IfSome len (λ len. len ≤ length line.new)) }
+        ensures in_line { IfOk result (λ len. IfSome len (λ len. len ≤ length line.new)) }
+        ensures after_failure { self.old.lines.whole ≡ false → is_ok result ≡ false }
+        ensures whole_value { self.new.lines.whole ≡ is_ok result }
     {
+        if !self.lines.whole {
+            return Err(ReadError {
+                count: 0,
+                error: io::Error::other("a read has failed"),
+            });
+        }
         let mut len = 0;
         for _ in 0..u64::MAX {
-            let taken = stream::take_line(&self.buf[self.at..self.end], line, len);
+            let lines = self.lines;
+            let taken = stream::take_line(&self.buf[lines.at..lines.end], line, len);
             len = taken.len;
             if let Some(rest) = taken.rest {
-                self.at = self.end - rest.len();
+                self.lines.at = lines.end - rest.len();
                 return Ok(Some(len));
             }
-            self.at = self.end;
-            if self.ended {
+            self.lines.at = lines.end;
+            if lines.ended {
                 return Ok((0 < len).then_some(len));
             }
             self.read_on()?;
@@ -84,10 +117,10 @@ pub fn read_text<
     ensures { IfOk result (λ taken. taken.len ≤ length line.new) }
 {
     let mut buf = [0u8; 65536];
-    let mut lines = Lines::open(reader, &mut buf)?;
+    let mut text = Reader::open(reader, &mut buf)?;
     let mut taker = start;
     for _ in 0..u64::MAX {
-        let Some(len) = lines.next_line(line)? else {
+        let Some(len) = text.next_line(line)? else {
             break;
         };
         taker = feed(taker, &line[..len])?;
