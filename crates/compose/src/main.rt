@@ -2,14 +2,11 @@
 // Its memory is constant: a part of the text, its line under way, a buffer of output, and the composer.
 #![tactic(auto)]
 
-ghost use Rattle.std.specs.Prelude.{◌≤◌, IfOk, length};
-
 use composer::Composer;
 use notation::Text;
 use std::env::{Env, FillError};
 use std::io::{Eprint, Read, Write};
 use stream::{Failure, Sink};
-use texts::Taken;
 
 // A block that was written; with `spans` none is.
 fn put_block<W: Write>(
@@ -26,21 +23,21 @@ fn put_block<W: Write>(
 // Puts the action under way, up to a fault. With `spans` it is put but once, so that the text's end finds whether there was one.
 fn put_action<W: Write>(
     sink: &mut Sink<'_, W>,
-    mut c: Composer,
+    c: &mut Composer,
     spans: bool,
-) -> Result<Composer, Failure> {
+) -> Result<(), Failure> {
     let mut block = [0u8; 512];
     let turns = if spans { c.left.min(1) } else { c.left };
     for _ in 0..turns {
-        let wrote = composer::put(c, &mut block);
-        c = wrote.composer;
+        let wrote = composer::put(*c, &mut block);
+        *c = wrote.composer;
         put_block(sink, &block, wrote.written && !spans)?;
         if c.fault.is_some() {
-            return Ok(c);
+            return Ok(());
         }
     }
     c.left = 0;
-    Ok(c)
+    Ok(())
 }
 
 // How many actions the line says that the composer has taken: 1 for the `nodes` line, before which there were `n`.
@@ -61,68 +58,65 @@ fn put_span<W: Write>(sink: &mut Sink<'_, W>, line: u64, times: u32) -> Result<(
 // Takes a line.
 fn take_line<W: Write>(
     sink: &mut Sink<'_, W>,
-    c: Composer,
+    c: &mut Composer,
     spans: bool,
     line: &[u8],
-) -> Result<Composer, Failure> {
+) -> Result<(), Failure> {
     let n = c.n;
-    let c = composer::feed(c, line);
+    *c = composer::feed(*c, line);
     if spans {
-        put_span(sink, c.line, said(n, &c))?;
+        put_span(sink, c.line, said(n, c))?;
     }
     put_action(sink, c, spans)
 }
 
-// Composes the text, up to a fault.
-fn compose_text<R: Read + Drop, W: Write>(
+// The text's end: the last block.
+fn finish<W: Write>(
+    sink: &mut Sink<'_, W>,
+    c: Composer,
+    spans: bool,
+) -> Result<Composer, Failure> {
+    let mut block = [0u8; 512];
+    let wrote = composer::finish(c, &mut block);
+    put_block(sink, &block, wrote.written && !spans)?;
+    Ok(wrote.composer)
+}
+
+// Composes the text up to a fault, writes what is then held, and says what is wrong.
+fn compose_text<R: Read + Drop, W: Write, E: Write>(
+    err: &mut E,
     reader: R,
-    line: &mut [u8],
     sink: &mut Sink<'_, W>,
     spans: bool,
-) -> Result<Taken<Composer>, Failure>
-    ensures { IfOk result (λ taken. taken.len ≤ length line.new) }
-{
+) -> Result<(), Failure> {
+    // The longest line is 255 bytes; a byte more shows that a line is longer.
+    let mut line = [0u8; 256];
     let read = texts::read_text(
         reader,
-        line,
+        &mut line,
         composer::start(),
         |c, line| take_line(sink, c, spans, line),
         |c: &Composer| c.fault.is_some(),
     )?;
-    let mut block = [0u8; 512];
-    let wrote = composer::finish(read.taker, &mut block);
-    put_block(sink, &block, wrote.written && !spans)?;
-    Ok(Taken {
-        taker: wrote.composer,
-        len: read.len,
-    })
+    let c = finish(sink, read.taker, spans)?;
+    sink.flush().map_err(Failure::Output)?;
+    if let Some(fault) = c.fault {
+        texts::report(err, Text::Run, c.n, c.line, fault, &line[..read.len]);
+    }
+    Ok(())
 }
 
-// Composes the text, writes what is then held, and says what is wrong.
+// Composes the text, and tells what stops it.
 fn compose<R: Read + Drop, W: Write + Drop, E: Eprint + Write>(
     err: &mut E,
     reader: R,
     writer: W,
     spans: bool,
 ) {
-    // The longest line is 255 bytes; a byte more shows that a line is longer.
-    let mut line = [0u8; 256];
     let mut out = [0u8; 65536];
     let mut sink = Sink::new(writer, &mut out);
-    match compose_text(reader, &mut line, &mut sink, spans) {
-        Ok(composed) => {
-            let c = composed.taker;
-            if !sink.end(&*err, "compose", Ok(())) {
-                return;
-            }
-            if let Some(fault) = c.fault {
-                texts::report(err, Text::Run, c.n, c.line, fault, &line[..composed.len]);
-            }
-        }
-        Err(failure) => {
-            sink.end(&*err, "compose", Err(failure));
-        }
-    }
+    let composed = compose_text(err, reader, &mut sink, spans);
+    sink.end(&*err, "compose", composed);
 }
 
 // Whether the arguments ask for the spans of the lines, or None where there are other arguments.

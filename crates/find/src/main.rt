@@ -25,7 +25,10 @@ fn run<R: Read + Drop, W: Write, E: Write>(
         reader,
         &mut line,
         finder::start(),
-        |f, line| Ok(finder::feed(f, line)),
+        |f, line| {
+            *f = finder::feed(*f, line);
+            Ok(())
+        },
         |f: &Finder| f.fault.is_some(),
     )?;
     let f = finder::finish(read.taker);

@@ -105,11 +105,12 @@ pub struct Taken<S> {
     pub len: usize,
 }
 
-// Feeds the lines of a text to what takes them, until it is over; its last line stands at the start of `line`.
+// Feeds the lines of a text to what takes them, until it is over; its last line stands at the start of `line`. What takes them is lent with each line: by value
+// it would be copied, at each line, to the closure and back.
 pub fn read_text<
     R: Read + Drop,
     S: Drop,
-    F: FnMut(S, &[u8]) -> Result<S, Failure>,
+    F: FnMut(&mut S, &[u8]) -> Result<(), Failure>,
     O: Fn(&S) -> bool,
 >(reader: R, line: &mut [u8], start: S, mut feed: F, is_over: O) -> Result<Taken<S>, Failure>
     requires feeds { F.IsAlwaysCallable feed }
@@ -123,7 +124,7 @@ pub fn read_text<
         let Some(len) = text.next_line(line)? else {
             break;
         };
-        taker = feed(taker, &line[..len])?;
+        feed(&mut taker, &line[..len])?;
         if is_over(&taker) {
             return Ok(Taken { taker, len });
         }

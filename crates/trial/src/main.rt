@@ -32,7 +32,10 @@ fn run<R: Read + Drop, W: Write, E: Write>(
         reader,
         &mut line,
         settings::start(),
-        |s, line| Ok(settings::feed(s, line)),
+        |s, line| {
+            *s = settings::feed(*s, line);
+            Ok(())
+        },
         |s: &Settings| s.fault.is_some(),
     )?;
     let s = settings::finish(read.taker);
