@@ -61,7 +61,7 @@ block_of number n l = block_with number n (records_of l)
 abbrev pub written : ℕ → List ℕ → List ℕ → List ℕ
 written number old new = cond (eqb number N.accepted) new old
 
--- request 5: "to return beside the block 31 numbers for tracing"; "0 past the count and when refused": the sums beside such a block
+-- the sums that a write gives: those of the block's actions, and 31 zeros if it is refused
 abbrev pub sums_given : Option Refusal → List ℕ → List ℕ
 sums_given None block = sums_of block
 sums_given (Some k) block = zeros 31
