@@ -38,11 +38,11 @@ module _ (us : ℕ → User) (n k : ℕ) where
   unfolding file_after
   tried_file file after e x = rw (eq-eqb _ _ e) x
 
-  -- a refusal says only its number, whatever tally it is put beside
-  pub refused_kept : (old t : Tally) (r : Refusal) → kept_with (Err r) t ≡ tried_of old us n k → refused old (number_of r) ≡ tried_of old us n k
+  -- a refusal says only its number: whatever tally stands beside it, and whichever was kept before
+  pub refused_kept : (old kept t : Tally) (r : Refusal) → kept_with (Err r) t ≡ tried_of kept us n k → refused old (number_of r) ≡ tried_of old us n k
   unfolding tried_of
-  refused_kept old t r e = go (eqb (trial_number us n k) N.accepted) refl
+  refused_kept old kept t r e = go (eqb (trial_number us n k) N.accepted) refl
     where
       go : (b : Bool) → eqb (trial_number us n k) N.accepted ≡ b → refused old (number_of r) ≡ tried_of old us n k
       go true x = let y : refused t (number_of r) ≡ tried us n k = rw x at e in clash _ (ap (λ z. eqb z.number 0) y) (refuses_it r)
-      go false x = let y : refused t (number_of r) ≡ refused old (trial_number us n k) = rw x at e in rw x (ap (λ z. refused old z.number) y)
+      go false x = let y : refused t (number_of r) ≡ refused kept (trial_number us n k) = rw x at e in rw x (ap (λ z. refused old z.number) y)
