@@ -2,14 +2,11 @@
 // Its memory is constant: a part of the text, its line under way, a buffer of output, and the composer.
 #![tactic(auto)]
 
-ghost use Rattle.std.specs.Prelude.{◌≤◌, IfOk, length};
-
 use composer::Composer;
 use notation::Text;
 use std::env::{Env, FillError};
 use std::io::{Eprint, Read, Write};
 use stream::{Failure, Sink};
-use texts::Taken;
 
 // A block that was written; with `spans` none is.
 fn put_block<W: Write>(
@@ -73,56 +70,53 @@ fn take_line<W: Write>(
     put_action(sink, c, spans)
 }
 
-// Composes the text, up to a fault.
-fn compose_text<R: Read + Drop, W: Write>(
+// The text's end: the last block.
+fn finish<W: Write>(
+    sink: &mut Sink<'_, W>,
+    c: Composer,
+    spans: bool,
+) -> Result<Composer, Failure> {
+    let mut block = [0u8; 512];
+    let wrote = composer::finish(c, &mut block);
+    put_block(sink, &block, wrote.written && !spans)?;
+    Ok(wrote.composer)
+}
+
+// Composes the text up to a fault, writes what is then held, and says what is wrong.
+fn compose_text<R: Read + Drop, W: Write, E: Write>(
+    err: &mut E,
     reader: R,
-    line: &mut [u8],
     sink: &mut Sink<'_, W>,
     spans: bool,
-) -> Result<Taken<Composer>, Failure>
-    ensures { IfOk result (λ taken. taken.len ≤ length line.new) }
-{
+) -> Result<(), Failure> {
+    // The longest line is 255 bytes; a byte more shows that a line is longer.
+    let mut line = [0u8; 256];
     let read = texts::read_text(
         reader,
-        line,
+        &mut line,
         composer::start(),
         |c, line| take_line(sink, c, spans, line),
         |c: &Composer| c.fault.is_some(),
     )?;
-    let mut block = [0u8; 512];
-    let wrote = composer::finish(read.taker, &mut block);
-    put_block(sink, &block, wrote.written && !spans)?;
-    Ok(Taken {
-        taker: wrote.composer,
-        len: read.len,
-    })
+    let c = finish(sink, read.taker, spans)?;
+    sink.flush().map_err(Failure::Output)?;
+    if let Some(fault) = c.fault {
+        texts::report(err, Text::Run, c.n, c.line, fault, &line[..read.len]);
+    }
+    Ok(())
 }
 
-// Composes the text, writes what is then held, and says what is wrong.
+// Composes the text, and tells what stops it.
 fn compose<R: Read + Drop, W: Write + Drop, E: Eprint + Write>(
     err: &mut E,
     reader: R,
     writer: W,
     spans: bool,
 ) {
-    // The longest line is 255 bytes; a byte more shows that a line is longer.
-    let mut line = [0u8; 256];
     let mut out = [0u8; 65536];
     let mut sink = Sink::new(writer, &mut out);
-    match compose_text(reader, &mut line, &mut sink, spans) {
-        Ok(composed) => {
-            let c = composed.taker;
-            if !sink.end(&*err, "compose", Ok(())) {
-                return;
-            }
-            if let Some(fault) = c.fault {
-                texts::report(err, Text::Run, c.n, c.line, fault, &line[..composed.len]);
-            }
-        }
-        Err(failure) => {
-            sink.end(&*err, "compose", Err(failure));
-        }
-    }
+    let composed = compose_text(err, reader, &mut sink, spans);
+    sink.end(&*err, "compose", composed);
 }
 
 // Whether the arguments ask for the spans of the lines, or None where there are other arguments.
