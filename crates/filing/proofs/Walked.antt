@@ -1,5 +1,5 @@
 -- A walk over what is read, part after part. Assumes nothing.
-use Rattle.std.proofs.Common.{◌≡◌, refl, sym, subst, ap, ◌∙◌, arith, rules, ℕ, zero, suc, ◌+◌, ◌*◌, ◌/◌, ◌%◌, ◌-◌, ◌<◌, ◌≤◌, min, Bool, true, false, List, [], ◌∷◌, ◌++◌, length, take, drop, Option, None, Some, Result, Ok, Err, OnOk, append_assoc, append-nil, ◌⊎◌, inl, inr, take-append-drop, length-append, length-drop}
+use Rattle.std.proofs.Common.{◌≡◌, refl, sym, subst, ap, ◌∙◌, arith, rules, ℕ, zero, suc, ◌*◌, ◌/◌, ◌%◌, ◌<◌, ◌≤◌, min, true, List, [], ◌∷◌, ◌++◌, length, take, drop, Option, None, Some, Result, Ok, Err, OnOk, append_assoc, append-nil, ◌⊎◌, inl, inr, take-append-drop, length-append, length-drop}
 use Rattle.std.proofs.Math.Seq.{take_all}
 use Rattle.std.proofs.lemmas.Bool.{cases_lt}
 use Rattle.std.proofs.lemmas.List.{length-take-le}
@@ -141,12 +141,12 @@ module _ {S : Type 0} (w : Walker S) where
         text = h.text ++ fed.text;
         adds = grows_twice old sent new h.text fed.text h.adds adds;
         whole = h.whole
-          ∙ ap (λ (l : List (List ℕ)). h.text ++ pieces_text w l p) cut
-          ∙ sym (append_assoc h.text fed.text (pieces_text w (pieces more) fed.after))
-          ∙ ap (λ (v : Walking S). (h.text ++ fed.text) ++ pieces_text w (pieces more) v) (sym next);
+            ∙ ap (λ (l : List (List ℕ)). h.text ++ pieces_text w l p) cut
+            ∙ sym (append_assoc h.text fed.text (pieces_text w (pieces more) fed.after))
+            ∙ ap (λ (v : Walking S). (h.text ++ fed.text) ++ pieces_text w (pieces more) v) (sym next);
         after = h.after
-          ∙ ap (λ (l : List (List ℕ)). pieces_after w l p) cut
-          ∙ ap (λ (v : Walking S). pieces_after w (pieces more) v) (sym next);
+            ∙ ap (λ (l : List (List ℕ)). pieces_after w l p) cut
+            ∙ ap (λ (v : Walking S). pieces_after w (pieces more) v) (sym next);
       }
 
   pub left_none : (all : List ℕ) (first : Walking S) (old sent : Option (List ℕ)) (rest : List ℕ) (p : Walking S) → Left all first old sent rest p → length rest ≡ 0
@@ -199,9 +199,9 @@ module _ {S : Type 0} (w : Walker S) where
         text = h.text ++ text;
         adds = grows_twice old sent new h.text text h.adds adds;
         whole = h.whole
-          ∙ ap (λ (t : List ℕ). h.text ++ t) (ap (λ (l : List (List ℕ)). fed_text w l p) parts ∙ fed_more (pieces part) (pieces rest) p
-          ∙ ap (λ (v : Walking S). text ++ fed_text w (pieces rest) v) (sym after))
-          ∙ sym (append_assoc h.text text (fed_text w (pieces rest) q));
+            ∙ ap (λ (t : List ℕ). h.text ++ t) (ap (λ (l : List (List ℕ)). fed_text w l p) parts ∙ fed_more (pieces part) (pieces rest) p
+            ∙ ap (λ (v : Walking S). text ++ fed_text w (pieces rest) v) (sym after))
+            ∙ sym (append_assoc h.text text (fed_text w (pieces rest) q));
       }
 
   -- as `fill` and `feed_pieces` say it

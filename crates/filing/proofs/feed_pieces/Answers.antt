@@ -1,9 +1,9 @@
-use Rattle.std.proofs.Common.{◌≡◌, ◌≤◌, ◌∙◌, sym, subst, ap, arith, rules, ℕ, min, length, take}
-use Rattle.std.specs.Slice.Iter.{chunks_rest, chunks_size}
+use Rattle.std.proofs.Common.{◌≤◌, ◌∙◌, sym, subst, ap, arith, rules, ℕ, min, length, take}
+use Rattle.std.specs.Slice.Iter.{chunks_rest}
 use Rattle.std.specs.Io.KnownBytes.{Appends}
 use Rattle.stream.specs.Collected.{sent}
 use Rattle.walk.specs.Feeding.{feed_of}
-use Rattle.filing.proofs.Walked.{read_back, Left, left_next, left_ended}
+use Rattle.filing.proofs.Walked.{read_back, left_next, left_ended}
 use Rattle.filing.proofs.feed_pieces.Goals as goal
 
 pub returns-then-fed-clause-walk_value : goal.returns-then-fed-clause-walk_value

@@ -11,7 +11,7 @@ invariant-loop-piece g l = record {
   stays_failed : l.fn.sink.held ≡ None → l.sink.held ≡ None;
   room : length l.text ≡ 2048;
   left : Left g.K.Walk.walker l.input (g.K.Walk.seen l.fn.walk)
-    (sent (g.W.Write.contents l.fn.sink.writer) l.fn.sink.buf.now l.fn.sink.held)
-    (sent (g.W.Write.contents l.sink.writer) l.sink.buf.now l.sink.held)
-    (chunks_rest l.piece-iterator) (g.K.Walk.seen l.walk);
+      (sent (g.W.Write.contents l.fn.sink.writer) l.fn.sink.buf.now l.fn.sink.held)
+      (sent (g.W.Write.contents l.sink.writer) l.sink.buf.now l.sink.held)
+      (chunks_rest l.piece-iterator) (g.K.Walk.seen l.walk);
 }

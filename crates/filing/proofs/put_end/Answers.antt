@@ -1,4 +1,4 @@
-use Rattle.std.proofs.Common.{◌≡◌, ◌≤◌, subst, arith, rules, length, take, OnOk}
+use Rattle.std.proofs.Common.{◌≤◌, subst, arith, rules, length, take, OnOk}
 use Rattle.std.specs.Io.KnownBytes.{Appends}
 use Rattle.stream.specs.Collected.{sent}
 use Rattle.walk.specs.Feeding.{finish_of}

@@ -1,9 +1,8 @@
 use Rattle.std.proofs.Common.{◌≡◌, ◌≤◌, ◌%◌, ◌∙◌, sym, subst, refl, arith, rules, ℕ, true, length, take}
-use Rattle.std.specs.Io.KnownBytes.{Appends}
 use Rattle.stream.specs.Collected.{sent}
 use Rattle.files.specs.Order.{is_ended}
 use Rattle.files.specs.Pieces.{pieces}
-use Rattle.filing.specs.Walked.{pieces_text, pieces_after}
+use Rattle.filing.specs.Walked.{pieces_after}
 use Rattle.filing.proofs.Walked.{begins, next_part, refused, ended, on_ok}
 use Rattle.filing.proofs.walk_input.Goals as goal
 
