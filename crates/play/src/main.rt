@@ -3,16 +3,17 @@
 #![tactic(auto)]
 
 use player::Player;
+use stream::Sink;
 
 fn main(rt: HostRuntime) {
     let mut input = [0u8; 65536];
     let mut out = [0u8; 65536];
+    let mut sink = Sink::new(rt.stdout(), &mut out);
     filing::run::<Player, _, _>(
         &rt.stderr(),
         "play",
         &mut rt.stdin(),
-        rt.stdout(),
+        &mut sink,
         &mut input,
-        &mut out,
     );
 }

@@ -267,7 +267,7 @@ pub fn tell(err: &impl Eprint, what: &str, error: Option<io::Error>) {
 }
 
 impl Failure {
-    // Tells it as a program's, in as many writes as any other text that is told.
+    // Tells it as that of a program, whose standard input or output it is.
     pub fn tell(self, err: &impl Eprint, program: &str) {
         let (name, error) = match self {
             Failure::Input(error) => ("input", error),

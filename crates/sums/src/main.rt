@@ -3,16 +3,17 @@
 #![tactic(auto)]
 
 use summing::Summing;
+use stream::Sink;
 
 fn main(rt: HostRuntime) {
     let mut input = [0u8; 512];
     let mut out = [0u8; 65536];
+    let mut sink = Sink::new(rt.stdout(), &mut out);
     filing::run::<Summing, _, _>(
         &rt.stderr(),
         "sums",
         &mut rt.stdin(),
-        rt.stdout(),
+        &mut sink,
         &mut input,
-        &mut out,
     );
 }
