@@ -71,11 +71,7 @@ fn take_line<W: Write>(
 }
 
 // The text's end: the last block.
-fn finish<W: Write>(
-    sink: &mut Sink<'_, W>,
-    c: Composer,
-    spans: bool,
-) -> Result<Composer, Failure> {
+fn finish<W: Write>(sink: &mut Sink<'_, W>, c: Composer, spans: bool) -> Result<Composer, Failure> {
     let mut block = [0u8; 512];
     let wrote = composer::finish(c, &mut block);
     put_block(sink, &block, wrote.written && !spans)?;

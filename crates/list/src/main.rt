@@ -9,11 +9,5 @@ fn main(rt: HostRuntime) {
     let mut input = [0u8; 512];
     let mut out = [0u8; 65536];
     let mut sink = Sink::new(rt.stdout(), &mut out);
-    filing::run::<Listing, _, _>(
-        &rt.stderr(),
-        "list",
-        &mut rt.stdin(),
-        &mut sink,
-        &mut input,
-    );
+    filing::run::<Listing, _, _>(&rt.stderr(), "list", &mut rt.stdin(), &mut sink, &mut input);
 }
