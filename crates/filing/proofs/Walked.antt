@@ -128,9 +128,6 @@ module _ {S : Type 0} (w : Walker S) where
     pub whole : pieces_text w (pieces all) first ≡ text ++ pieces_text w (pieces rest) p
     pub after : pieces_after w (pieces all) first ≡ pieces_after w (pieces rest) p
 
-  pub left_all : (all : List ℕ) (p : Walking S) (old : Option (List ℕ)) → Left all p old old all p
-  left_all all p old = record { text = []; adds = grows_none old; whole = refl; after = refl }
-
   pub left_next : (all : List ℕ) (first : Walking S) (old sent new : Option (List ℕ)) (rest piece more : List ℕ) (p q : Walking S) → Left all first old sent rest p
       → rest ≡ piece ++ more → length piece ≡ min 512 (length rest) → 0 < length rest
       → Appends sent new (feed_of w p piece).text → q ≡ (feed_of w p piece).after → Left all first old new more q
@@ -148,13 +145,6 @@ module _ {S : Type 0} (w : Walker S) where
             ∙ ap (λ (l : List (List ℕ)). pieces_after w l p) cut
             ∙ ap (λ (v : Walking S). pieces_after w (pieces more) v) (sym next);
       }
-
-  pub left_none : (all : List ℕ) (first : Walking S) (old sent : Option (List ℕ)) (rest : List ℕ) (p : Walking S) → Left all first old sent rest p → length rest ≡ 0
-      → Appends old sent (pieces_text w (pieces all) first) × (p ≡ pieces_after w (pieces all) first)
-  left_none all first old sent [] p h none =
-      let same : pieces_text w (pieces all) first ≡ h.text = h.whole ∙ append-nil h.text in
-      (subst (Appends old sent) (sym same) h.adds, sym h.after)
-  left_none all first old sent (b ∷ l) p h none = absurd (omega arith)
 
   pub left_ended : (all : List ℕ) (first : Walking S) (old sent : Option (List ℕ)) (rest : List ℕ) (p : Walking S) → Left all first old sent rest p → is_ended p.stage ≡ true
       → Appends old sent (pieces_text w (pieces all) first) × (is_ended (pieces_after w (pieces all) first).stage ≡ true)
