@@ -153,8 +153,8 @@ pub fn advance(b: Bus, a: Action) -> Played
     hand_on(b, glance(b.n, b.phase, a))
 }
 
-// For a player: the same on the bus where it lies, which a refusal leaves as it is, by whatever table it lends and whatever it says of Asked nodes. It takes the
-// chart's table once (`link::table::table`), and keeps for itself whether some node is Asked (`asking`): then it is `advance`.
+// For a player: a step on the bus where it lies, by the table that is lent and by what is said of Asked nodes; a refusal leaves the bus as it is. By the chart's own
+// table, which a player takes once (`link::table::table`), and where it is right whether some node is Asked (`asking`), it is `advance`.
 pub fn play(bus: &mut Bus, table: &[u16; 350], asked: bool, a: Action) -> Result<Report, Refusal>
     ensures { seen (record { report = result; bus = bus.new }) ≡ advance_by (heard_by table.now) asked (view bus.old) a }
 {

@@ -8,7 +8,6 @@ use borrow.Author.Tests.{eqb-true, eqb-false, ltb-true, lt-ltb, ne_eqb}
 use lib.Dec.{eqb, ltb}
 use Rattle.std.proofs.Common.{Result, Ok, Err}
 use Rattle.charts.specs.Numbers as N
-use Rattle.charts.specs.Numbers as N
 use Rattle.charts.specs.Records.{is_address, is_own}
 use Rattle.charts.specs.State.{upd}
 use Rattle.charts.specs.Trials.{stray_address, own_address, trial_number}

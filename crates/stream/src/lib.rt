@@ -235,8 +235,8 @@ pub fn take_line<'a>(bytes: &'a [u8], line: &mut [u8], len: usize) -> Taken<'a>
     }
 }
 
-// The longest text of an error that is told, or of what failed.
-const TOLD: usize = 320;
+// The longest text of an error that is told.
+const REASON: usize = 320;
 
 // The text of an error without its number, which ends it as ` (os error 28)`.
 fn reason_of(text: &[u8]) -> &str {
@@ -245,25 +245,30 @@ fn reason_of(text: &[u8]) -> &str {
         .map_or(text, |(reason, _)| reason)
 }
 
-// Puts a text into a buffer, and answers how much of it is used.
-fn put_text(out: &mut [u8], text: &impl Display) -> usize
-    ensures { IsPrefixLen result out.new }
+// Puts the text of an error into a buffer, and answers how much of it is used.
+fn put_error(text: &mut [u8], error: io::Error) -> usize
+    ensures { IsPrefixLen result text.new }
 {
-    let size = out.len();
-    let mut rest = &mut out[..];
-    let _ = write!(rest, "{text}");
+    let size = text.len();
+    let mut rest = &mut text[..];
+    let _ = write!(rest, "{error}");
     size.saturating_sub(rest.len())
 }
 
-// Says on standard error what failed, and why: a line as `play: standard output: No space left on device`.
-pub fn tell(err: &impl Eprint, what: &str, error: Option<io::Error>) {
-    let mut text = [0u8; TOLD];
+// Says on standard error what failed, and why.
+fn tell_of(err: &impl Eprint, what: &impl Display, error: Option<io::Error>) {
+    let mut text = [0u8; REASON];
     let size = match error {
-        Some(error) => put_text(&mut text, &error),
+        Some(error) => put_error(&mut text, error),
         None => 0,
     };
     let reason = reason_of(&text[..size]);
     let _ = eprintln!(err; "{what}: {reason}");
+}
+
+// Says on standard error what failed, and why: a line as `play: standard output: No space left on device`.
+pub fn tell(err: &impl Eprint, what: &str, error: Option<io::Error>) {
+    tell_of(err, &what, error);
 }
 
 impl Failure {
@@ -273,10 +278,11 @@ impl Failure {
             Failure::Input(error) => ("input", error),
             Failure::Output(error) => ("output", error),
         };
-        let mut text = [0u8; TOLD];
-        let size = put_text(&mut text, &format_args!("{program}: standard {name}"));
-        let what = str::from_utf8(&text[..size]).unwrap_or(program);
-        tell(err, what, Some(error));
+        tell_of(
+            err,
+            &format_args!("{program}: standard {name}"),
+            Some(error),
+        );
     }
 }
 
