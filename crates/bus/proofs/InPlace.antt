@@ -32,7 +32,7 @@ use Rattle.bus.proofs.ReadLaws.{plan_fits}
 use Rattle.bus.proofs.ViewLaws.{view_n, view_phase, stored, applied, carried}
 
 -- a record's plan, or what refused it, in one answer
-abbrev flat : Tried Refusal → Planned
+abbrev pub flat : Tried Refusal → Planned
 flat (Err k) = Err k
 flat (Ok r) = r
 
@@ -49,9 +49,9 @@ module _ (b : Bus) (d : Decoded) (i : ℕ) (c : Cell) (r : Tried Refusal) (size 
   plan_is : flat r ≡ planned h b.n b.phase b.concatenated q i c (mark b.won) (mark b.pending) (mark b.holder) d
   plan_is = ap flat is-plan ∙ tried_ready h b.n b.phase b.concatenated q i c (mark b.won) (mark b.pending) (mark b.holder) d ready l
 
-  -- an action that has no plan leaves the bus as it is
-  pub stays : (k : Refusal) → r ≡ Ok (Err k) → refuses (view b) (number_of k) ≡ step_by h q (view b) d
-  stays k e = ap (applied (view b) i) (sym (ap flat e)) ∙ carried h q b d i c (flat r) is-aim is-cell plan_is
+  -- a record that has no plan, or is refused itself, leaves the bus as it is
+  pub stays : (k : Refusal) → flat r ≡ Err k → refuses (view b) (number_of k) ≡ step_by h q (view b) d
+  stays k e = ap (applied (view b) i) (sym e) ∙ carried h q b d i c (flat r) is-aim is-cell plan_is
 
   module _ (p : Plan) (planned-p : r ≡ Ok (Ok p)) where
     -- a plan is one for at most 63 nodes
@@ -81,7 +81,7 @@ unfolding advance_by
 advances_by h q b a = rw (view_n b, view_phase b)
 
 -- by the chart's table, and where it is right whether a node is Asked, a step is the charts'
-charted : (s : State) (d : Decoded) → step_by hears (some_asked s) s d ≡ step_with s d
+pub charted : (s : State) (d : Decoded) → step_by hears (some_asked s) s d ≡ step_with s d
 unfolding play
 charted s (Err k) = refl
 charted s (Ok m) = refl

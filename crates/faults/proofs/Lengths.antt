@@ -23,6 +23,29 @@ pub refused_short : (k : ℕ) → k < 256 → length (fault_words (F.Refused k))
 unfolding fault_words
 refused_short k h = let a = length-append (ascii "refused ") (decimal k) in let b = byte_short k h in omega arith
 
+-- a fault's number fits its type
+abbrev pub FittingFault : Fault → Type 0
+FittingFault (F.Refused k) = k < 256
+FittingFault _ = Unit
+
+pub fault_short : (f : Fault) → FittingFault f → length (fault_words f) ≤ 20
+unfolding fault_words
+fault_short F.UnknownWord h = omega arith
+fault_short F.NotNumber h = omega arith
+fault_short F.TooLarge h = omega arith
+fault_short F.MissingField h = omega arith
+fault_short F.ExtraField h = omega arith
+fault_short F.NoRepeat h = omega arith
+fault_short F.LongLine h = omega arith
+fault_short F.NodesMissing h = omega arith
+fault_short F.NodesAgain h = omega arith
+fault_short F.NoUser h = omega arith
+fault_short F.NoAction h = omega arith
+fault_short F.TooMany h = omega arith
+fault_short F.NoQuestion h = omega arith
+fault_short F.AfterQuestion h = omega arith
+fault_short (F.Refused k) h = refused_short k h
+
 byte_shown : (b : ℕ) → length (shown_byte b) ≤ 4
 unfolding shown_byte
 byte_shown b =
@@ -171,11 +194,15 @@ cause_short (C.Ack ack) w h =
 cause_short C.Closed w h = let a = said_short w (ascii ": not open when its turn comes") 80 (omega arith) in omega arith
 cause_short C.Depth w h = let a = said_short w (ascii ": a route has at most 6 actions, on a bus of at most 8 nodes") 80 (omega arith) in omega arith
 
-pub line_short : (number : ℕ) (f : Fault) (cause : Cause) (w : List ℕ) → number < 18446744073709551616 → length (fault_words f) ≤ 20 → length (cause_words cause w) ≤ 400 → length (fault_line number f cause w) ≤ 512
+pub words_short : (number : ℕ) (f : Fault) (cause : Cause) (w : List ℕ) → number < 18446744073709551616 → length (fault_words f) ≤ 20 → length (cause_words cause w) ≤ 400 → length (fault_line number f cause w) ≤ 512
 unfolding fault_line
-line_short number f cause w h e g =
+words_short number f cause w h e g =
     let a = length-append (decimal number) (ascii ": " ++ (fault_words f ++ (cause_words cause w ++ (10 ∷ [])))) in
     let b = length-append (fault_words f) (cause_words cause w ++ (10 ∷ [])) in
     let c = length-append (cause_words cause w) (10 ∷ []) in
     let d = short_8 number h in
     omega arith
+
+-- of every fault
+pub line_short : (number : ℕ) (f : Fault) (cause : Cause) (w : List ℕ) → number < 18446744073709551616 → FittingFault f → length (cause_words cause w) ≤ 400 → length (fault_line number f cause w) ≤ 512
+line_short number f cause w h e g = words_short number f cause w h (fault_short f e) g
