@@ -203,6 +203,6 @@ words_short number f cause w h e g =
     let d = short_8 number h in
     omega arith
 
--- of every fault
+-- of every fault whose number fits its type
 pub line_short : (number : ℕ) (f : Fault) (cause : Cause) (w : List ℕ) → number < 18446744073709551616 → FittingFault f → length (cause_words cause w) ≤ 400 → length (fault_line number f cause w) ≤ 512
 line_short number f cause w h e g = words_short number f cause w h (fault_short f e) g
